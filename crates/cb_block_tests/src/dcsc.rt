@@ -1,5 +1,8 @@
 //! Worked examples, with ample memory and with each allocation refused in turn.
 ghost use Rattle.std.specs.Prelude.{◌≡◌, ◌≤◌, [], length};
+ghost use Rattle.cb_semirings.specs.Tables.{plus_times};
+ghost use Rattle.cb_matrix.specs.Sparse.{IsMatrix};
+ghost use Rattle.cb_dcsc.specs.Columns.{with_entries};
 
 use crate::samples::{are_same, entries, has_entries, is_right_or_refused};
 use cb_dcsc::{Block, BlockFault};
@@ -294,6 +297,72 @@ fn is_appended_everywhere(alloc: Global, entries: &[Entry]) -> Result<bool, Samp
 #[test]
 fn a_block_is_appended_to_one_of_any_length(rt: HostRuntime) {
     assert!(rt; is_right_or_refused(is_appended_everywhere(rt.alloc(), MANY)));
+}
+
+/// 3,000 entries, three in each of a thousand columns.
+fn long_list(alloc: Global) -> Result<Vec<Entry>, AllocError> {
+    let mut entries = Vec::new(alloc);
+    for n in 0..3000u32 {
+        entries.push(entry(n % 3, n / 3, 1 + u64::from(n)))?;
+    }
+    Ok(entries)
+}
+
+/// Appends a block to another. If memory is refused, which is the answer `false`, both have as many entries as before.
+fn is_granted(front: &mut Block<PlusTimes>, back: &mut Block<PlusTimes>) -> bool
+    requires shape { back.old.shape ≡ front.old.shape }
+    requires matrix { IsMatrix plus_times (with_entries front.old back.old.entries) }
+{
+    let (own, others) = (front.len(), back.len());
+    match front.append(back) {
+        Ok(()) => {
+            prove_eq!(back.len(), 0);
+            true
+        }
+        Err(_) => {
+            prove_eq!(front.len(), own);
+            prove_eq!(back.len(), others);
+            false
+        }
+    }
+}
+
+/// Whether the block of the entries before a place gets those of the block of the others, which keeps none; or else, both
+/// are as they were.
+fn gets_all_or_nothing(alloc: Global, entries: &[Entry], place: usize) -> Result<bool, SampleFault>
+    requires { place ≤ length entries.now }
+{
+    let whole = block::<PlusTimes>(alloc, 4, 1000, entries)?;
+    let _shape = whole.shape();
+    let mut front = block(alloc, 4, 1000, &entries[..place])?;
+    let mut back = block(alloc, 4, 1000, &entries[place..])?;
+    let (own, others) = (front.try_clone()?, back.try_clone()?);
+    if is_granted(&mut front, &mut back) {
+        Ok(are_same(&front, &whole) && back.len() == 0)
+    } else {
+        Ok(are_same(&front, &own) && are_same(&back, &others))
+    }
+}
+
+/// How many of the 3,000 entries are in the first block. A short one takes over the lists of the other; a long one copies
+/// them. Some share a column with the other.
+const DIVIDED: &[usize] = &[0, 1, 3, 300, 1499, 1500, 2999, 3000];
+
+/// The same, wherever a long list is divided.
+fn gets_all_or_nothing_everywhere(alloc: Global) -> Result<bool, SampleFault> {
+    let entries = long_list(alloc)?;
+    for place in DIVIDED {
+        if *place > entries.len() || !gets_all_or_nothing(alloc, &entries, *place)? {
+            return Ok(false);
+        }
+    }
+    Ok(true)
+}
+
+/// Passes whichever single allocation is refused: then neither block changes.
+#[test]
+fn a_refused_append_changes_nothing(rt: HostRuntime) {
+    assert!(rt; is_right_or_refused(gets_all_or_nothing_everywhere(rt.alloc())));
 }
 
 /// A block over or-and is taken as one over min-plus.

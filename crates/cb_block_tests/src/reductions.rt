@@ -1,11 +1,13 @@
 //! Sums of rows, of columns and of all values, with ample memory and with each allocation refused in turn.
+ghost use Rattle.std.specs.Prelude.{◌<◌, ◌≤◌, ◌^◌};
+
 use crate::calls::{Call, Case, Given, are_right, are_right_or_refused};
-use crate::samples::entries;
-use cb_matrix::LIMIT;
-use cb_reductions::total;
-use cb_samples::{SampleFault, block};
+use crate::samples::{entries, has_entries, is_right_or_refused};
+use cb_matrix::{Entry, LIMIT};
+use cb_reductions::{row_sums, total};
+use cb_samples::{SampleFault, block, entry};
 use cb_semirings::PlusTimes;
-use std::alloc::Global;
+use std::alloc::{AllocError, Global};
 
 /// The last row and the last column of the largest sides.
 const LAST: u32 = LIMIT - 1;
@@ -72,6 +74,53 @@ fn sums() -> &'static [Case<'static>] {
 #[test]
 fn entries_are_added_up(rt: HostRuntime) {
     assert!(rt; are_right(rt.alloc(), sums()));
+}
+
+/// The numbers of rows of blocks of 3,000 entries. Up to 12,003 the sums are added up in a list of all rows.
+const TALL_SIDES: &[u32] = &[100, 3_001, 12_003, 12_004, LIMIT];
+
+/// Thirty columns of a hundred entries each, in the rows that are multiples of `step`.
+fn spread(alloc: Global, step: u32) -> Result<Vec<Entry>, AllocError>
+    requires { step ≤ 21474836 }
+{
+    let mut entries = Vec::with_capacity(alloc, 3_000)?;
+    for column in 0..30u32 {
+        for n in 0..100u32 {
+            entries.push(entry(n * step, column, 1 + u64::from(column + n)))?;
+        }
+    }
+    Ok(entries)
+}
+
+/// The sums of its rows: 30 times 1 + n in row n of a hundred, and the sum of the numbers below 30.
+fn sums_of_spread(alloc: Global, step: u32) -> Result<Vec<Entry>, AllocError>
+    requires { step ≤ 21474836 }
+{
+    let mut entries = Vec::with_capacity(alloc, 100)?;
+    for n in 0..100u32 {
+        entries.push(entry(n * step, 0, 30 * (1 + u64::from(n)) + 435))?;
+    }
+    Ok(entries)
+}
+
+/// Whether the rows of a block of 3,000 entries and this many rows have the right sums.
+fn has_row_sums(alloc: Global, rows: u32) -> Result<bool, SampleFault>
+    requires { rows < 2 ^ 31 }
+{
+    let step = rows / 100;
+    let whole = block::<PlusTimes>(alloc, rows, 30, &spread(alloc, step)?)?;
+    let sums = row_sums(alloc, &whole)?;
+    Ok(has_entries(&sums, &sums_of_spread(alloc, step)?) && sums.shape().rows() == rows)
+}
+
+/// Passes whichever single allocation is refused.
+#[test]
+fn many_entries_are_added_up_by_row(rt: HostRuntime) {
+    for rows in TALL_SIDES {
+        if *rows <= LIMIT {
+            assert!(rt; is_right_or_refused(has_row_sums(rt.alloc(), *rows)));
+        }
+    }
 }
 
 /// Whether the sum of all values is this one.

@@ -219,9 +219,9 @@ fn join_named(
     over_semiring!(semiring, join_over::<_>(alloc, front, back))
 }
 
-/// Joins two panels of a product, also of one under a mask or outside it: keeps the entries of one matrix, and after them those of another, whose columns are all
-/// after its own. Takes the entries out of both. Costs a copy of the second matrix's entries, or nothing if the first has
-/// none.
+/// Joins two panels of a product, also of one under a mask or outside it: keeps the entries of one matrix, and after them
+/// those of another, whose columns are all after its own. Takes the entries out of both, also if memory is refused: then
+/// they are dropped. Costs a copy of the second matrix's entries, or nothing if the first has none.
 pub fn kept_join(alloc: Global, front: &mut Kept, back: &mut Kept) -> Result<Kept, Fault>
     ensures { IsAnswer (join_faults front.old back.old) (IsKeptJoin front.old back.old) result }
 {

@@ -1,5 +1,5 @@
 //! Glue: blocks over a grid are gathered into one matrix.
-ghost use Rattle.std.specs.Prelude.{◌≡◌, ℕ, ◌<◌, ◌+◌, ◌*◌, ◌^◌, ◌++◌, length, min, sum_by, All, IfOk, OnOk};
+ghost use Rattle.std.specs.Prelude.{◌≡◌, ℕ, ◌<◌, ◌+◌, ◌*◌, ◌^◌, ◌++◌, length, min, sum_by, All, IfOk, OnOk, OnErr};
 ghost use Rattle.cb_matrix.specs.Sparse.{IsMatrix};
 ghost use Rattle.cb_grid.specs.Blocks.{AreBlocksOf, block_at, glued_blocks};
 ghost use Rattle.cb_layout.specs.Distributed.{HavePartShapes};
@@ -55,19 +55,21 @@ pub fn stored<S: Semiring>(blocks: &[Block<S>]) -> usize
     count
 }
 
-/// Appends the entries of a segment.
+/// Appends the entries of a segment. If memory is refused, the list stays as it was.
 pub fn append_segment(entries: &mut Vec<Entry>, segment: Segment<'_>) -> Result<(), AllocError>
     requires lengths { length segment.values.now ≡ length segment.rows.now }
     requires fits { All (λ i. segment.top + i < 2 ^ 32) segment.rows.now }
-    ensures { OnOk result (entries.new.items ≡ entries.old.items ++ entries_of segment.entry) }
+    ensures ok { OnOk result (entries.new.items ≡ entries.old.items ++ entries_of segment.entry) }
+    ensures err { OnErr result (entries.new.items ≡ entries.old.items) }
 {
     let (rows, values) = (segment.rows, segment.values);
+    entries.reserve(rows.len())?;
     for n in 0..rows.len() {
-        entries.push(Entry {
+        entries.push_reserved(Entry {
             row: segment.top + rows[n],
             column: segment.column,
             value: values[n],
-        })?;
+        });
     }
     Ok(())
 }

@@ -62,7 +62,8 @@ impl<S: Semiring> ProductColumn<S> {
     /// Replaces this column by a sum of columns of the left block, each times a factor, without the entries in the excluded
     /// rows, which ascend. `inner` has the numbers of the left block's columns; the index is that of the left block.
     ///
-    /// Costs the products of these columns and factors, and the excluded rows.
+    /// Costs the products of these columns and factors, and the excluded rows. If memory is refused, the entries are those
+    /// of no column until a later call succeeds.
     pub fn make_outside(
         &mut self,
         left: &Block<S>,

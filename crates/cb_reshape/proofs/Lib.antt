@@ -2,7 +2,7 @@
 -- their sums. ByRow: entries placed row by row. Bands: which are placed while a band is.
 -- Turned: entries row by row are the transpose.
 -- FirstFrom: where the numbers from a bound on begin. PartOfColumn, PartOfBlock: the part of one column, and of all
--- columns one after another. PartValues: the value at each place of a part that was moved.
+-- columns one after another. PartValues: the value at each place of a part that was moved. ListedColumn: a list as a column.
 mod Exchanged
 mod Counts
 mod ByRow
@@ -12,3 +12,4 @@ mod FirstFrom
 mod PartOfColumn
 mod PartOfBlock
 mod PartValues
+mod ListedColumn

@@ -1,4 +1,4 @@
-//! Blocks in another shape: transposed, cut, or placed in a larger one.
+//! Blocks in another shape: transposed, cut, or placed in a larger one; and a list as a block of one column.
 //!
 //! No value changes: each entry moves to another place or is left out. Cutting and placing keep the order of the entries,
 //! by column and then by row, so one walk over the columns does both (`parts`): it takes the entries in some rows and
@@ -10,7 +10,9 @@
 //! section 4), distribute a matrix over a grid of processes and put it together again.
 #![tactic(auto)]
 
-ghost use Rattle.std.specs.Prelude.{◌≡◌, ℕ, ◌≤◌, ◌+◌, ◌-◌, map, IfOk};
+ghost use Rattle.std.specs.Prelude.{◌≡◌, ◌↔◌, ℕ, ◌≤◌, ◌+◌, ◌-◌, ◌/◌, IsTrue, length, map, slice_index_or, All, IfOk};
+ghost use Rattle.cb_semirings.specs.Arithmetic.{IsValue};
+ghost use Rattle.cb_matrix.specs.Values.{matrix_of};
 ghost use Rattle.cb_matrix.specs.Operations.{transposed, cut, placed};
 ghost use Rattle.cb_matrix.specs.Sparse.{IsMatrix};
 ghost use Rattle.cb_reshape.specs.Exchange.{exchanged};
@@ -25,7 +27,7 @@ use cb_matrix::{Entry, LIMIT, Shape, in_order};
 use cb_semirings::Semiring;
 use std::alloc::{AllocError, Global};
 
-/// The most rows for each entry that the transpose counts.
+/// The most rows for each entry of a block that has few rows.
 const ROWS_PER_ENTRY: usize = 4;
 
 /// The most bands of rows in which the transpose places the entries: each costs a pass over the block.
@@ -33,6 +35,14 @@ const BANDS: usize = 8;
 
 /// The fewest entries of a band, unless it is the last: the places of this many stay in the caches.
 const ENTRIES_PER_BAND: usize = 1 << 19;
+
+/// Whether a block has few rows: at most four for each entry. Only then does a list of all its rows cost no more than the
+/// entries do.
+pub fn has_few_rows<S: Semiring>(block: &Block<S>) -> bool
+    ensures { IsTrue result ↔ (block.now.shape.rows / ROWS_PER_ENTRY ≤ length block.now.entries) }
+{
+    block.shape().rows() as usize / ROWS_PER_ENTRY <= block.len()
+}
 
 /// The block with rows and columns exchanged.
 ///
@@ -43,7 +53,7 @@ pub fn transpose<S: Semiring>(alloc: Global, block: &Block<S>) -> Result<Block<S
 {
     let inner = block.shape();
     let shape = shape_of(inner.cols(), inner.rows());
-    if inner.rows() as usize / ROWS_PER_ENTRY <= block.len() {
+    if has_few_rows(block) {
         let band = (block.len() / BANDS + 1).max(ENTRIES_PER_BAND);
         return transpose_by_counting(alloc, block, shape, band);
     }
@@ -113,6 +123,33 @@ pub fn place<S: Semiring>(
         corner,
     };
     moved(alloc, shape, block, part, block.len())
+}
+
+/// The block of one column that has the values of a list, each in the row of its place. Zeros aren't stored.
+///
+/// Costs a few instructions for each place of the list.
+pub fn column_of_list<S: Semiring>(
+    alloc: Global,
+    shape: Shape,
+    values: &[u64],
+) -> Result<Block<S>, AllocError>
+    requires column { shape.cols ≡ 1 }
+    requires length { length values.now ≡ shape.rows }
+    requires values { All (IsValue S.arithmetic) values.now }
+    ensures { IfOk result (λ m. m ≡ matrix_of S.arithmetic shape (λ i _. slice_index_or values.now i S.arithmetic.zero)) }
+{
+    let mut made = Block::empty(alloc, shape);
+    for row in 0..shape.rows() {
+        let value = values[row as usize];
+        if value != S::zero() {
+            made.push(Entry {
+                row,
+                column: 0,
+                value,
+            })?;
+        }
+    }
+    Ok(made)
 }
 
 /// Exchanges the row and the column of each entry.

@@ -2,7 +2,7 @@
 //!
 //! A list with a place for each vertex is fastest, but costs memory and time for each vertex, and a graph may have many
 //! more vertices than entries. Such a graph gets a tree of the vertices that have a number.
-ghost use Rattle.std.specs.Prelude.{◌≡◌, ◌≢◌, ℕ, ◌<◌, ◌==◌, cond, length, slice_index_or, IfOk, OnOk};
+ghost use Rattle.std.specs.Prelude.{◌≡◌, ◌≢◌, ℕ, ◌<◌, ◌==◌, cond, length, slice_index_or, IfOk, OnErr, OnOk};
 ghost use Rattle.cb_semirings.specs.Tables.{min_plus};
 ghost use Rattle.cb_matrix.specs.Sparse.{at};
 ghost use Rattle.cb_searches.specs.Walks.{infinite};
@@ -68,11 +68,13 @@ impl Numbers {
         }
     }
 
-    /// Gives a vertex a number. In constant time in a list, and logarithmic in a tree.
+    /// Gives a vertex a number. In constant time in a list, and logarithmic in a tree. If memory is refused, the numbers
+    /// stay as they were.
     pub fn set(&mut self, vertex: u32, number: u64) -> Result<(), AllocError>
         requires vertex { (n : ℕ) × AreNumbers n self.old × (vertex < n) }
         ensures values { OnOk result ((v : ℕ) → number_at self.new v ≡ cond (v == vertex) number (number_at self.old v)) }
         ensures numbers { OnOk result ((n : ℕ) → AreNumbers n self.old → vertex < n → number < infinite → AreNumbers n self.new) }
+        ensures err { OnErr result ((v : ℕ) → number_at self.new v ≡ number_at self.old v) }
     {
         match self {
             Numbers::Dense(list) => list[vertex as usize] = number,

@@ -51,7 +51,7 @@ loop-rank-preserved g c =
     let r = c.loop-rank.rank in
     let own = piece g (goal.at.loop-rank-preserved g c).After-result_start-top in
     piece_more g.S.Semiring.arithmetic q (some_side q r own.0) c.args.shape c.requires.column c.args.blocks.now c.requires.count c.requires.shapes c.stored.ensures.matrices r own.0 c.loop-rank.entries.items c.append_segment.new.entries.items
-    c.result_start-top.result own.2 (rw (rw own.1 at c.row_numbers.ensures, rw own.1 at c.values.ensures) at c.in_ok-append_segment.ensures) c.loop-rank.invariant
+    c.result_start-top.result own.2 (rw (rw own.1 at c.row_numbers.ensures, rw own.1 at c.values.ensures) at c.in_ok-append_segment.ensures.ok) c.loop-rank.invariant
 
 -- the vector is the one that the pieces make
 whole : (g : given.Over) (c : In_ok-vector g) →

@@ -39,7 +39,7 @@ loop-segment-preserved g c =
     let x = c.in-Some.segment in
     let so_far = c.loop-segment.entries.items in
     let front : List Entry = shifted x.top x.column x.rows.now x.values.now in
-    ap (λ es. es ++ c.next_segment.new.self) c.in_ok-append_segment-in-Some.ensures
+    ap (λ es. es ++ c.next_segment.new.self) c.in_ok-append_segment-in-Some.ensures.ok
     ∙ append_assoc so_far front c.next_segment.new.self
     ∙ ap (λ es. so_far ++ es) (sym c.in-Some.ensures.some)
     ∙ c.loop-segment.invariant

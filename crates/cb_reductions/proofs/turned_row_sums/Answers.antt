@@ -2,7 +2,7 @@ use Rattle.std.proofs.Common.{◌≡◌, ap, ◌∙◌}
 use Rattle.std.proofs.lemmas.Result.{IfOk-weaker}
 use Rattle.cb_matrix.specs.Operations.{transposed, column_sums, row_sums}
 use Rattle.cb_reductions.proofs.TurnedSums.{turned_sums}
-use Rattle.cb_reductions.proofs.row_sums.Goals as goal
+use Rattle.cb_reductions.proofs.turned_row_sums.Goals as goal
 
 pub returns : goal.returns
 returns g c =
