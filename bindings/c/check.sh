@@ -15,6 +15,7 @@ grep -qx "const VERSION: &str = \"$version\";" ../../crates/cb_words/src/command
 grep -qx "version = \"$version\"" ../python/pyproject.toml || fail "the Python package has another version than $version"
 
 "$out/check"
+"$out/check_large"
 "$out/check_panels"
 
 "$out/example" | cmp - example.out || fail "the example prints something else than example.out"

@@ -6,6 +6,7 @@
 #define CHECK_H
 
 #include <inttypes.h>
+#include <limits.h>
 #include <stdio.h>
 #include <stdlib.h>
 #include <string.h>
@@ -30,8 +31,12 @@ void expect(int holds, const char *what, const char *file, int line);
 /* Prints how many checks there were, and how many failed. Returns the status of the program. */
 int report(void);
 
-/* ---- dense.c: dense matrices, and what the calls mean on them. */
+/* ---- dense.c: dense matrices, and what the calls mean on them. With LARGE their sides are SIDE. */
+#ifdef LARGE
+#define SIDE 240
+#else
 #define SIDE 7
+#endif
 #define SEMIRINGS (CBGRID_MIN_MAX + 1)
 struct dense {
     uint32_t nrows, ncols;
@@ -52,6 +57,7 @@ size_t dense_text(uint32_t semiring, const struct dense *a, char *text);
 /* ---- operands.c: random matrices, passed in each form and kept in each way; and looks at results. */
 extern uint64_t random_state;
 uint32_t draw(uint32_t below);
+uint32_t draw_to(uint32_t least, uint32_t most);
 uint64_t value_of(uint32_t semiring);
 struct dense random_dense(uint32_t semiring, uint32_t nrows, uint32_t ncols);
 
@@ -67,10 +73,21 @@ int look(uint32_t semiring, const struct cbgrid_matrix *made, const struct dense
 struct cbgrid_matrix *random_kept(uint32_t semiring, uint32_t nrows, uint32_t ncols, uint32_t one_of);
 int is_same(const struct cbgrid_matrix *a, const struct cbgrid_matrix *b);
 
-/* ---- The tests, each in a file of its own: some of the rounds if `is_few`, or all. */
+/* ---- The tests, each in a file of its own: some of the rounds if `is_few`, or all. With LARGE each call is made once, over the
+ * first semiring if it takes one, and with ample memory: the first allocation that is refused comes after all others. */
+#ifdef LARGE
+#define ROUNDS(is_few, few, many) ((void)(is_few), 1)
+#define TRIED 1
+#define FIRST_REFUSED (LONG_MAX - 1)
+#else
+#define ROUNDS(is_few, few, many) ((is_few) ? (few) : (many))
+#define TRIED SEMIRINGS
+#define FIRST_REFUSED 0
+#endif
 void test_codes(void);
 void test_kept_codes(void);
 void test_limits(void);
+void test_columns(void);
 void test_operations(int is_few);
 void test_graphs(int is_few);
 void test_selections(int is_few);

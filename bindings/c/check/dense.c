@@ -63,10 +63,11 @@ struct dense dense_product(uint32_t semiring, const struct dense *a, const struc
     return made;
 }
 
-/* Rounds in which each edge may shorten the distance of the vertex that it leads to. */
+/* Rounds in which each edge may shorten the distance of the vertex that it leads to, until none does. */
 struct dense dense_relaxed(const struct dense *graph, const struct dense *given, int edges_count_one) {
-    struct dense made = *given;
-    for (uint32_t round = 0; round < graph->nrows; round++) {
+    struct dense made = *given, before = blank(CBGRID_MIN_PLUS, 0, 0);
+    while (memcmp(&made, &before, sizeof made)) {
+        before = made;
         for (uint32_t i = 0; i < graph->nrows; i++) {
             for (uint32_t j = 0; j < graph->nrows; j++) {
                 uint64_t length = graph->at[i][j];

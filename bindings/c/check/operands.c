@@ -10,6 +10,16 @@ uint32_t draw(uint32_t below) {
     return (uint32_t)((random_state >> 20) % below);
 }
 
+/* A number of rows, of columns or of what a list has: with LARGE the most there may be. */
+uint32_t draw_to(uint32_t least, uint32_t most) {
+#ifdef LARGE
+    (void)least;
+    return most;
+#else
+    return least + draw(most + 1 - least);
+#endif
+}
+
 uint64_t value_of(uint32_t semiring) {
     if (semiring == CBGRID_OR_AND) return draw(2);
     return draw(4) ? draw(9) : UINT64_MAX - draw(3) * (UINT64_MAX / 2);
@@ -17,7 +27,7 @@ uint64_t value_of(uint32_t semiring) {
 
 struct dense random_dense(uint32_t semiring, uint32_t nrows, uint32_t ncols) {
     struct dense made = blank(semiring, nrows, ncols);
-    uint32_t one_of = 1 + draw(4);
+    uint32_t one_of = 1 + draw(SIDE < 100 ? 4 : 2);
     for (uint32_t i = 0; i < nrows; i++) {
         for (uint32_t j = 0; j < ncols; j++) {
             if (!draw(one_of)) made.at[i][j] = value_of(semiring);

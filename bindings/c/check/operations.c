@@ -13,7 +13,7 @@ struct job {
     struct dense dense[3], want;
     struct lists lists[3];
     struct cbgrid_columns lent[3];
-    char text[4096];
+    char text[128 + 32 * SIDE * SIDE];
     size_t text_len;
 };
 
@@ -72,7 +72,7 @@ static struct dense wanted(const struct job *job) {
 }
 
 static void make_job(struct job *job, enum operation operation, uint32_t semiring) {
-    uint32_t m = 1 + draw(SIDE), k = 1 + draw(SIDE), n = operation == VECTOR ? 1 : 1 + draw(SIDE);
+    uint32_t m = draw_to(1, SIDE), k = draw_to(1, SIDE), n = operation == VECTOR ? 1 : draw_to(1, SIDE);
     int is_walk = operation == LEVELS || operation == DISTANCES, is_product = operation <= VECTOR;
     if (is_walk) semiring = operation == LEVELS ? CBGRID_OR_AND : CBGRID_MIN_PLUS;
     job->operation = operation, job->semiring = semiring;
@@ -170,7 +170,7 @@ static void test_kept_answers(int rounds) {
     static struct job job;
     for (int round = 0; round < rounds; round++) {
         for (int operation = 0; operation < OPERATIONS; operation++) {
-            for (uint32_t semiring = 0; semiring < SEMIRINGS; semiring++) {
+            for (uint32_t semiring = 0; semiring < TRIED; semiring++) {
                 make_job(&job, (enum operation)operation, semiring);
                 EXPECT(run_kept(&job, (int)draw(4)) == CBGRID_OK);
             }
@@ -184,9 +184,9 @@ static void test_kept_refused_memory(int rounds) {
     long refused = 0;
     for (int round = 0; round < rounds; round++) {
         for (int operation = 0; operation < OPERATIONS; operation++) {
-            make_job(&job, (enum operation)operation, draw(SEMIRINGS));
+            make_job(&job, (enum operation)operation, draw(TRIED));
             uint64_t state = random_state;
-            for (long n = 0, more = 1; more; n++) {
+            for (long n = FIRST_REFUSED, more = 1; more; n++) {
                 random_state = state;
                 left = n;
                 int code = run_kept(&job, round % 4);
@@ -199,7 +199,7 @@ static void test_kept_refused_memory(int rounds) {
             }
         }
     }
-    EXPECT(refused > 0);
+    EXPECT((refused > 0) == !FIRST_REFUSED);
     printf("memory of kept matrices was refused %ld times\n", refused);
 }
 
@@ -207,7 +207,7 @@ static void test_answers(int rounds) {
     static struct job job;
     for (int round = 0; round < rounds; round++) {
         for (int operation = 0; operation < OPERATIONS; operation++) {
-            for (uint32_t semiring = 0; semiring <= CBGRID_MIN_MAX; semiring++) {
+            for (uint32_t semiring = 0; semiring < TRIED; semiring++) {
                 make_job(&job, (enum operation)operation, semiring);
                 EXPECT(run(&job) == CBGRID_OK);
             }
@@ -222,8 +222,8 @@ static void test_refused_memory(int rounds) {
     long refused = 0;
     for (int round = 0; round < rounds; round++) {
         for (int operation = 0; operation < OPERATIONS; operation++) {
-            make_job(&job, (enum operation)operation, draw(4));
-            for (long n = 0, more = 1; more; n++) {
+            make_job(&job, (enum operation)operation, draw(SIDE < 100 ? 4 : TRIED));
+            for (long n = FIRST_REFUSED, more = 1; more; n++) {
                 left = n;
                 int code = run(&job);
                 more = left < 0;
@@ -235,13 +235,13 @@ static void test_refused_memory(int rounds) {
             }
         }
     }
-    EXPECT(refused > 0);
+    EXPECT((refused > 0) == !FIRST_REFUSED);
     printf("memory was refused %ld times\n", refused);
 }
 
 void test_operations(int is_few) {
-    test_answers(is_few ? 5 : 200);
-    test_refused_memory(is_few ? 1 : 20);
-    test_kept_answers(is_few ? 2 : 100);
-    test_kept_refused_memory(is_few ? 1 : 8);
+    test_answers(ROUNDS(is_few, 5, 200));
+    test_refused_memory(ROUNDS(is_few, 1, 20));
+    test_kept_answers(ROUNDS(is_few, 2, 100));
+    test_kept_refused_memory(ROUNDS(is_few, 1, 8));
 }
