@@ -396,8 +396,8 @@ int cbgrid_matrix_select(const struct cbgrid_matrix *a, uint32_t region, int64_t
 /*
  * Replaces the value of each entry by a function (enum cbgrid_function), which takes `number`. CBGRID_TEST if there is
  * no such function. CBGRID_VALUE if what it takes isn't a value of the semiring: the number, or for CBGRID_ROW and
- * CBGRID_COLUMN the number of the last row or column of a. (If a has no rows or no columns, any number is accepted.) A
- * value that becomes zero isn't stored. Costs a walk over the entries.
+ * CBGRID_COLUMN the number of the last row or column of a, if there is one. A value that becomes zero isn't stored. Costs a
+ * walk over the entries.
  */
 int cbgrid_matrix_apply(const struct cbgrid_matrix *a, uint32_t function, uint64_t number, struct cbgrid_matrix **out);
 

@@ -139,7 +139,7 @@ static void make_selection(struct selection *job, enum choice choice, uint32_t s
     job->code = CBGRID_OK;
     if (choice == DIAGONAL_MATRIX && n != 1) job->code = CBGRID_SHAPES;
     uint32_t last = job->number == CBGRID_ROW ? m : job->number == CBGRID_COLUMN ? n : 0;
-    if (choice == APPLY && semiring == CBGRID_OR_AND && m && n && last > 2) job->code = CBGRID_VALUE;
+    if (choice == APPLY && semiring == CBGRID_OR_AND && last > 2) job->code = CBGRID_VALUE;
     if (job->code == CBGRID_OK) job->want = wanted_selection(job);
     job->total = zero_of(semiring);
     for (uint32_t i = 0; i < m; i++) {
@@ -218,7 +218,7 @@ static void test_random_selections(int rounds) {
 static void test_selection_codes(void) {
     static const struct cbgrid_triple triples[] = {{0, 0, 1}, {1, 0, 1}, {0, 2, 1}};
     static const uint32_t good_rows[] = {1, 0}, bad_rows[] = {0, 2}, bad_columns[] = {3};
-    struct cbgrid_matrix *a, *b, *huge, *square, *lengths, *one, *unset = NULL;
+    struct cbgrid_matrix *a, *b, *huge, *square, *lengths, *one, *flat, *unset = NULL;
     struct cbgrid_matrix *const was = (struct cbgrid_matrix *)&unset, *out = was;
     uint64_t total = 77;
     EXPECT(cbgrid_matrix_of_triples(CBGRID_OR_AND, 2, 3, triples, 3, &a) == CBGRID_OK);
@@ -227,6 +227,7 @@ static void test_selection_codes(void) {
     EXPECT(cbgrid_matrix_of_triples(CBGRID_OR_AND, 2, 2, triples, 2, &square) == CBGRID_OK);
     EXPECT(cbgrid_matrix_of_triples(CBGRID_MIN_PLUS, 2, 2, triples, 2, &lengths) == CBGRID_OK);
     EXPECT(cbgrid_matrix_of_triples(CBGRID_MIN_PLUS, 1, 1, triples, 1, &one) == CBGRID_OK);
+    EXPECT(cbgrid_matrix_of_triples(CBGRID_OR_AND, 0, 3, NULL, 0, &flat) == CBGRID_OK);
     left = 0;
     EXPECT(cbgrid_matrix_select(a, 4, 0, &out) == CBGRID_TEST);
     EXPECT(cbgrid_matrix_apply(a, 6, 2, &out) == CBGRID_TEST);
@@ -235,6 +236,9 @@ static void test_selection_codes(void) {
     EXPECT(cbgrid_matrix_apply(a, CBGRID_SUM, 2, &out) == CBGRID_VALUE);
     EXPECT(cbgrid_matrix_apply(a, CBGRID_COLUMN, 0, &out) == CBGRID_VALUE);
     EXPECT(cbgrid_matrix_apply(huge, CBGRID_ROW, 0, &out) == CBGRID_VALUE);
+    EXPECT(cbgrid_matrix_apply(flat, CBGRID_CONSTANT, 2, &out) == CBGRID_VALUE);
+    EXPECT(cbgrid_matrix_apply(flat, CBGRID_LEFT_PRODUCT, 2, &out) == CBGRID_VALUE);
+    EXPECT(cbgrid_matrix_apply(flat, CBGRID_COLUMN, 0, &out) == CBGRID_VALUE);
     EXPECT(cbgrid_matrix_diagonal_matrix(a, &out) == CBGRID_SHAPES);
     EXPECT(cbgrid_matrix_part(a, 0, 3, 0, 3, &out) == CBGRID_PLACE);
     EXPECT(cbgrid_matrix_part(a, 0, 2, 0, UINT32_MAX, &out) == CBGRID_PLACE);
@@ -314,6 +318,7 @@ static void test_selection_codes(void) {
     cbgrid_matrix_free(square);
     cbgrid_matrix_free(lengths);
     cbgrid_matrix_free(one);
+    cbgrid_matrix_free(flat);
     EXPECT(live == 0);
 }
 

@@ -1,7 +1,7 @@
 -- Operations on one kept matrix: entries in a region, values replaced, diagonals, parts, powers, rows and columns by their
 -- numbers.
 use Rattle.std.specs.Prelude.{◌≡◌, ℕ, ◌<◌, ◌≤◌, ◌==◌, cond, List, length, All, Option, Some, None, Result}
-use Rattle.cb_semirings.specs.Arithmetic.{Arithmetic, IsValue}
+use Rattle.cb_semirings.specs.Arithmetic.{Arithmetic}
 use Rattle.cb_semirings.specs.declared.names.SemiringName.{SemiringName}
 use Rattle.cb_semirings.specs.Names.{arithmetic_of}
 use Rattle.cb_matrix.specs.declared.TheConstants.{LIMIT}
@@ -11,7 +11,7 @@ use Rattle.cb_selections.specs.declared.regions.Diagonal.{Diagonal as Line}
 use Rattle.cb_selections.specs.declared.regions.Region.TheVariants.{Lower, Upper, On, Off}
 use Rattle.cb_selections.specs.declared.functions.Function.{Function}
 use Rattle.cb_selections.specs.declared.functions.Function.TheVariants.{Constant, Sum, LeftProduct, RightProduct, Row, Column}
-use Rattle.cb_selections.specs.Functions.{operand_of}
+use Rattle.cb_selections.specs.Functions.{TakesValues}
 use Rattle.cb_selections.specs.Selections.{selected, applied, diagonal_of, diagonal_matrix, extracted}
 use Rattle.cb_selections.specs.TurnedProducts.{power}
 use Rattle.cb_interop.specs.declared.selections.Selection.{Selection}
@@ -52,10 +52,6 @@ made_by Diagonal s a = diagonal_of s a
 made_by DiagonalMatrix s a = diagonal_matrix s a
 made_by (Part rows cols) s a = cut s rows cols a
 made_by (Power n) s a = power s a n
-
--- the number that a function takes is a value at each place of a shape
-abbrev pub TakesValues : Arithmetic → Function → Extent → Type 0
-TakesValues s function shape = (i j : ℕ) → i < shape.rows → j < shape.cols → IsValue s (operand_of function i j)
 
 -- the first number of a pair is at most the second, which is at most n
 abbrev pub IsRange : ℕ → ℕ × ℕ → Type 0

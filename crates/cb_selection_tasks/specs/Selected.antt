@@ -1,10 +1,10 @@
 -- The selections from a matrix, and when they are refused.
-use Rattle.std.specs.Prelude.{ℕ, ◌≡◌, ◌<◌, ◌≤◌, ◌*◌}
+use Rattle.std.specs.Prelude.{ℕ, ◌≡◌, ◌≤◌, ◌*◌}
 use Rattle.std.specs.Int.NonZero.{non_zero_u32_get}
-use Rattle.cb_semirings.specs.Arithmetic.{Arithmetic, IsValue}
+use Rattle.cb_semirings.specs.Arithmetic.{Arithmetic}
 use Rattle.cb_matrix.specs.Sparse.{Sparse, Extent}
 use Rattle.cb_matrix.specs.declared.TheConstants.{LIMIT}
-use Rattle.cb_selections.specs.Functions.{operand_of}
+use Rattle.cb_selections.specs.Functions.{TakesValues}
 use Rattle.cb_selections.specs.TurnedProducts.{power}
 use Rattle.cb_selections.specs.Selections.{selected, applied, diagonal_of, diagonal_matrix}
 use Rattle.cb_selections.specs.declared.regions.Region.{Region}
@@ -47,7 +47,7 @@ selection_of (Power factors) s a = power s a (non_zero_u32_get factors)
 -- is a column, and what is multiplied by itself is square
 abbrev pub Fits : Selection → Arithmetic → Extent → Type 0
 Fits (Select region right down) s d = Unit {0}
-Fits (Apply function) s d = (i j : ℕ) → i < d.rows → j < d.cols → IsValue s (operand_of (function_of function) i j)
+Fits (Apply function) s d = TakesValues s (function_of function) d
 Fits Diagonal s d = Unit {0}
 Fits DiagonalMatrix s d = d.cols ≡ 1
 Fits (Power factors) s d = d.rows ≡ d.cols

@@ -1,7 +1,7 @@
 //! Functions that give an entry a new value.
 ghost use Rattle.std.specs.Prelude.{◌≡◌, ◌↔◌, ℕ, ◌<◌, IsTrue};
 ghost use Rattle.cb_semirings.specs.Arithmetic.{IsValue};
-ghost use Rattle.cb_selections.specs.Functions.{operand_of, function_value};
+ghost use Rattle.cb_selections.specs.Functions.{TakesValues, operand_of, function_value};
 
 use cb_matrix::Shape;
 use cb_semirings::Semiring;
@@ -24,30 +24,19 @@ pub enum Function {
 }
 
 impl Function {
-    /// Whether its operand is a value of the semiring at every place of a shape.
+    /// Whether the numbers that it takes in matrices of a shape are values of the semiring: its own, whatever the shape, or those
+    /// of all rows or of all columns.
     pub fn fits<S: Semiring>(&self, shape: Shape) -> bool
-        ensures { IsTrue result ↔ ((i j : ℕ) → i < shape.rows → j < shape.cols → IsValue S.arithmetic (operand_of self.now i j)) }
-    {
-        if shape.rows() == 0 {
-            return true;
-        }
-        if shape.cols() == 0 {
-            return true;
-        }
-        S::is_value(self.operand(shape.rows() - 1, shape.cols() - 1))
-    }
-
-    /// Its operand at a place: the number that it uses beside the value.
-    fn operand(&self, row: u32, column: u32) -> u64
-        ensures { result ≡ operand_of self.now row column }
+        ensures fits { IsTrue result ↔ TakesValues S.arithmetic self.now shape }
+        ensures places { IsTrue result → (i j : ℕ) → i < shape.rows → j < shape.cols → IsValue S.arithmetic (operand_of self.now i j) }
     {
         match self {
-            Function::Constant(number) => *number,
-            Function::Sum(number) => *number,
-            Function::LeftProduct(number) => *number,
-            Function::RightProduct(number) => *number,
-            Function::Row => u64::from(row),
-            Function::Column => u64::from(column),
+            Function::Constant(number) => S::is_value(*number),
+            Function::Sum(number) => S::is_value(*number),
+            Function::LeftProduct(number) => S::is_value(*number),
+            Function::RightProduct(number) => S::is_value(*number),
+            Function::Row => are_values::<S>(shape.rows()),
+            Function::Column => are_values::<S>(shape.cols()),
         }
     }
 
@@ -66,4 +55,11 @@ impl Function {
             Function::Column => u64::from(column),
         }
     }
+}
+
+/// Whether all numbers below this one are values of the semiring.
+fn are_values<S: Semiring>(count: u32) -> bool
+    ensures { IsTrue result ↔ ((i : ℕ) → i < count → IsValue S.arithmetic i) }
+{
+    count == 0 || S::is_value(u64::from(count - 1))
 }
