@@ -1,5 +1,6 @@
 //! Conflicts between options that `clap` accepts one by one.
-use crate::selection_words::{has_word, lists_of, takes_number};
+use crate::options::{has_word, is_there};
+use crate::selection_words::{lists_of, takes_number};
 use clap::ArgMatches;
 
 /// A usage error as `clap` writes its own: what is wrong, and the usage of the command.
@@ -23,7 +24,7 @@ const NUMBER_TOO_MANY: &str = usage_error!(
 
 /// The usage error of `--function` with `--value`, or without it.
 fn number_conflict(found: &ArgMatches<'_>) -> Option<&'static str> {
-    match (takes_number(found), found.contains_id("value")) {
+    match (takes_number(found), is_there(found, "value")) {
         (true, false) => Some(NO_NUMBER),
         (false, true) => Some(NUMBER_TOO_MANY),
         _ => None,
@@ -32,7 +33,7 @@ fn number_conflict(found: &ArgMatches<'_>) -> Option<&'static str> {
 
 /// The usage error of `--trace` with `--engine plain`, which runs no ranks.
 fn trace_conflict(found: &ArgMatches<'_>) -> Option<&'static str> {
-    let is_plain = found.get_flag("trace") && has_word(found, "engine", "plain");
+    let is_plain = has_word(found, "trace", "true") && has_word(found, "engine", "plain");
     is_plain.then_some(usage_error!(
         "the argument '--trace' cannot be used with '--engine plain'",
         "multiply [OPTIONS] <A> <B>"

@@ -9,10 +9,14 @@
 
 mod commands;
 mod conflicts;
+mod engine_words;
+mod file_words;
 mod jobs;
 mod lists;
+mod options;
 mod selection_names;
 mod selection_words;
+mod task_words;
 mod tasks;
 mod words;
 
