@@ -9,15 +9,17 @@
 //! that costs one read. All operations on the ring and on the bell are in one total order, so either the waiting thread
 //! sees the change, or the other end sees that there is someone to wake.
 //!
-//! No contract claims that a sleeper wakes.
+//! No contract claims that a sleeper wakes. That it looks between the announcement and its sleep is proved: the look from
+//! before the announcement is forgotten there.
 #![tactic(auto)]
 
 ghost use Rattle.std.specs.Prelude.{◌≡◌, ◌<◌, length, IsTrue};
 ghost use Rattle.std.proofs.Common.{rules};
 ghost use Rattle.rtrb.specs.Ring.{received, known_free, known_items, ProducerLooked, SameConsumer};
+ghost use Rattle.cb_bells.specs.declared.Look.TheVariants.{Ready, Nothing};
 
 use crossbeam_utils::Backoff;
-use crossbeam_utils::sync::EventCount;
+use crossbeam_utils::sync::{EventCount, Key};
 use rtrb::{Consumer, Producer, Protocol};
 use std::alloc::{AllocError, Global};
 use std::sync::{Arc, Wait};
@@ -42,24 +44,34 @@ impl Bell {
     }
 }
 
+/// What a look at an end of a ring shows.
+#[derive(Clone, Copy, Debug, PartialEq, Eq, Drop)]
+pub enum Look {
+    /// There is a free place to push to, or an item to pop.
+    Ready,
+    /// There is none, and the other end was dropped.
+    Left,
+    /// There is none yet.
+    Nothing,
+}
+
 /// An end of a ring that a thread may wait at.
 pub trait RingEnd {
-    ghost use Rattle.std.specs.Prelude.{IsTrue};
-
     /// This end only looked at the other end.
     ghost looked: { Self → Self → Type 0 };
 
     /// The next push or pop succeeds.
     ghost ready: { Self → Type 0 };
 
-    /// Whether there is a free place to push to, or an item to pop.
-    fn is_ready(&mut self) -> bool
-        ensures looked { looked self.old self.new }
-        ensures ready { IsTrue result → ready self.new };
+    /// The last look showed nothing.
+    ghost idle: { Self → Type 0 };
 
-    /// Whether the other end was dropped. The contract claims nothing about the answer.
-    fn is_left(&mut self) -> bool
-        ensures { looked self.old self.new };
+    /// Looks whether there is a free place to push to, or an item to pop. The contract doesn't claim that the other end is
+    /// there if it isn't `Left`.
+    fn look(&mut self) -> Look
+        ensures looked { looked self.old self.new }
+        ensures ready { result ≡ Ready → ready self.new }
+        ensures idle { result ≡ Nothing → idle self.new };
 
     ghost unchanged: { (a : Self) → looked a a };
 
@@ -71,16 +83,19 @@ impl<T, P: Protocol<T>> RingEnd for Producer<T, Global, P> {
 
     ghost ready = { λ ring. 0 < known_free ring };
 
+    ghost idle = { λ ring. known_free ring ≡ 0 };
+
     ghost unchanged = { Prim.search rules };
 
     ghost again = { Prim.search rules };
 
-    fn is_ready(&mut self) -> bool {
-        !self.is_full()
-    }
-
-    fn is_left(&mut self) -> bool {
-        self.is_abandoned()
+    fn look(&mut self) -> Look {
+        // Asked before polling, so that what the other end did just before it was dropped isn't missed.
+        let is_left = self.is_abandoned();
+        if !self.is_full() {
+            return Look::Ready;
+        }
+        if is_left { Look::Left } else { Look::Nothing }
     }
 }
 
@@ -89,16 +104,19 @@ impl<T, P: Protocol<T>> RingEnd for Consumer<T, Global, P> {
 
     ghost ready = { λ ring. 0 < length (known_items ring) };
 
+    ghost idle = { λ ring. length (known_items ring) ≡ 0 };
+
     ghost unchanged = { Prim.search rules };
 
     ghost again = { Prim.search rules };
 
-    fn is_ready(&mut self) -> bool {
-        !self.is_empty()
-    }
-
-    fn is_left(&mut self) -> bool {
-        self.is_abandoned()
+    fn look(&mut self) -> Look {
+        // As above.
+        let is_left = self.is_abandoned();
+        if !self.is_empty() {
+            return Look::Ready;
+        }
+        if is_left { Look::Left } else { Look::Nothing }
     }
 }
 
@@ -109,13 +127,10 @@ pub fn wait_at<E: RingEnd, R: Wait>(rt: &R, end: &mut E, bell: &Bell) -> bool
 {
     let backoff = Backoff::new();
     for _ in rt.forever() {
-        // Asked before polling, so that what the other end did just before it was dropped isn't missed.
-        let is_left = end.is_left();
-        if end.is_ready() {
-            return true;
-        }
-        if is_left {
-            return false;
+        match end.look() {
+            Look::Ready => return true,
+            Look::Left => return false,
+            Look::Nothing => {}
         }
         if backoff.is_completed() {
             sleep_at(rt, end, bell);
@@ -130,8 +145,23 @@ pub fn wait_at<E: RingEnd, R: Wait>(rt: &R, end: &mut E, bell: &Bell) -> bool
 fn sleep_at<E: RingEnd, R: Wait>(rt: &R, end: &mut E, bell: &Bell)
     ensures { E.looked end.old end.new }
 {
-    let wait = bell.events.prepare_wait();
-    if !end.is_ready() && !end.is_left() {
-        wait.wait(rt);
+    let announced = announce(end, bell);
+    if end.look() == Look::Nothing {
+        sleep(rt, end, announced);
     }
+}
+
+/// Announces that a thread is about to sleep at an end. What was seen of the end before is out of date from then on: the
+/// contract keeps none of it.
+fn announce<'b, E: RingEnd>(_end: &mut E, bell: &'b Bell) -> Key<'b>
+    ensures { E.looked _end.old _end.new }
+{
+    bell.events.prepare_wait()
+}
+
+/// Sleeps until the bell rings. The end has to be looked at after the sleep was announced.
+fn sleep<E: RingEnd, R: Wait>(rt: &R, _end: &E, announced: Key<'_>)
+    requires { E.idle _end.now }
+{
+    announced.wait(rt);
 }
