@@ -8,7 +8,7 @@ use Rattle.std.proofs.lemmas.Bool.{cases_lt, cases_order}
 use Rattle.std.proofs.Math.Seq.{map-set_same, take-append_seam, take-length}
 use Rattle.std.proofs.lemmas.List.{map-append}
 use Rattle.cb_lanes.specs.declared.desk.Desk.{Desk}
-use Rattle.cb_lanes.specs.Desks.{Identity, identity, identity_at, AreOfOneOpening, AreLinked, Keeps, SameDesks, IsSettled, IsPairSettled, IsSettledLane, posted_to, taken_from, posted_in, taken_in}
+use Rattle.cb_lanes.specs.Desks.{Identity, identity, identity_at, AreOfOneOpening, AreLinked, Keeps, SameDesks, IsSettled, IsPairSettled, IsSettledLane, posted_to, taken_from, posted_in, taken_in, capacity_to, capacity_in}
 use Rattle.cb_rings.specs.declared.ring_ends.Poster.{Poster}
 use Rattle.cb_rings.specs.Ends.{sent_by, outgoing_ring}
 use Rattle.cb_letters.specs.declared.Letter.{Letter}
@@ -173,27 +173,33 @@ module _ {P : Type 0} where
   abbrev taken_of : Option (Desk P) → ℕ → List (Letter P)
   taken_of o from = option_map_or (λ d. taken_from d from) o []
 
-  -- the same desks posted and took the same letters at one place
+  abbrev capacity_at : Option (Desk P) → ℕ → ℕ
+  capacity_at o to = option_map_or (λ d. capacity_to d to) o 0
+
+  -- the same desks posted and took the same letters at one place, over the same lanes
   same_at : (xs ys : List (Desk P)) (a : Desk P) → SameDesks xs ys → (k j : ℕ)
-      → (posted_of (slice_get ys k) j ≡ posted_of (slice_get xs k) j) × (taken_of (slice_get ys k) j ≡ taken_of (slice_get xs k) j)
+      → (posted_of (slice_get ys k) j ≡ posted_of (slice_get xs k) j) × (taken_of (slice_get ys k) j ≡ taken_of (slice_get xs k) j) × (capacity_at (slice_get ys k) j ≡ capacity_at (slice_get xs k) j)
   same_at xs ys a same k j =
       ⊎_elim
       (λ (h : k < length xs).
       let old = slice_get-get_or xs k a h in
       let new = slice_get-get_or ys k a (rw same.count h) in
       let each = same.each k a h in
-      rw (old, new) ((each.1 j).0, each.2 j))
+      rw (old, new) ((each.1 j).0, each.2 j, (each.1 j).2))
       (λ (h : length xs ≤ k).
       let old = slice_get_past xs k h in
       let new = slice_get_past ys k (rw same.count h) in
-      rw (old, new) (refl, refl))
+      rw (old, new) (refl, refl, refl))
       (cases_lt k (length xs))
 
-  -- the same desks posted and took the same letters
-  pub same_lists : (xs ys : List (Desk P)) → SameDesks xs ys → (from to : ℕ) → (posted_in ys from to ≡ posted_in xs from to) × (taken_in ys from to ≡ taken_in xs from to)
-  same_lists [] [] same from to = (refl, refl)
+  -- the same desks posted and took the same letters, over the same lanes
+  pub same_lists : (xs ys : List (Desk P)) → SameDesks xs ys → (from to : ℕ)
+      → (posted_in ys from to ≡ posted_in xs from to) × (taken_in ys from to ≡ taken_in xs from to) × (capacity_in ys from to ≡ capacity_in xs from to)
+  same_lists [] [] same from to = (refl, refl, refl)
   same_lists [] (b ∷ ys) same from to = absurd (let size = same.count in omega arith)
-  same_lists (a ∷ xs) ys same from to = ((same_at (a ∷ xs) ys a same from to).0, (same_at (a ∷ xs) ys a same to from).1)
+  same_lists (a ∷ xs) ys same from to =
+      let here = same_at (a ∷ xs) ys a same from to in
+      (here.0, (same_at (a ∷ xs) ys a same to from).1, here.2)
 
   -- each desk is at the place of its number, with a lane for each rank
   at_place : (xs : List (Desk P)) → AreOfOneOpening (map identity xs) → (k : ℕ) (a : Desk P) → k < length xs

@@ -164,6 +164,10 @@ module _ {P : Type 0} where
   abbrev pub posted_in : List (Desk P) → ℕ → ℕ → List (Letter P)
   posted_in desks from to = option_map_or (λ d. posted_to d to) (slice_get desks from) []
 
+  -- how many letters the lane from the first rank's desk to the second rank holds; 0 if there is no such desk
+  abbrev pub capacity_in : List (Desk P) → ℕ → ℕ → ℕ
+  capacity_in desks from to = option_map_or (λ d. capacity_to d to) (slice_get desks from) 0
+
   -- the letters that the second rank's desk took from the first rank, oldest first
   abbrev pub taken_in : List (Desk P) → ℕ → ℕ → List (Letter P)
   taken_in desks from to = option_map_or (λ d. taken_from d from) (slice_get desks to) []

@@ -1,7 +1,7 @@
 //! Settling: the desks of all ranks are brought together, and both ends of each lane compared. No memory is taken.
 ghost use Rattle.std.specs.Prelude.{ℕ, ◌≡◌, ◌<◌, length, map};
-ghost use Rattle.cb_lanes.specs.Desks.{identity, AreOfOneOpening, SameDesks, IsPairSettled, posted_in, taken_in, AreSettledLanes};
-ghost use Rattle.cb_lanes.specs.Lanes.{rank_count, posted_on, taken_on};
+ghost use Rattle.cb_lanes.specs.Desks.{identity, AreOfOneOpening, SameDesks, IsPairSettled, capacity_in, posted_in, taken_in, AreSettledLanes};
+ghost use Rattle.cb_lanes.specs.Lanes.{rank_count, capacity_on, posted_on, taken_on};
 
 use crate::desk::Desk;
 use crate::settled::Settled;
@@ -11,6 +11,7 @@ use crate::settled::Settled;
 pub fn settle<P: Drop>(desks: Vec<Desk<P>>) -> Settled<P>
     requires { AreOfOneOpening (map identity desks.items) }
     ensures ranks { rank_count result ≡ length desks.items }
+    ensures capacities { (from to : ℕ) → capacity_on result from to ≡ capacity_in desks.items from to }
     ensures posted { (from to : ℕ) → posted_on result from to ≡ posted_in desks.items from to }
     ensures taken { (from to : ℕ) → taken_on result from to ≡ taken_in desks.items from to }
     ensures settled { AreSettledLanes desks.items }

@@ -7,6 +7,11 @@ returns-clause-ranks g c =
     let same = rw c.deref_mut.ensures.value at c.settle_all.ensures.same in
     rw (lent_whole c.args.desks.items c.settle_all.new.desks c.args.desks.len (omega arith) same.count) same.count
 
+pub returns-clause-capacities : goal.returns-clause-capacities
+returns-clause-capacities g c from to =
+    let same = rw c.deref_mut.ensures.value at c.settle_all.ensures.same in
+    rw (lent_whole c.args.desks.items c.settle_all.new.desks c.args.desks.len (omega arith) same.count) (same_lists c.args.desks.items c.settle_all.new.desks same from to).2
+
 pub returns-clause-posted : goal.returns-clause-posted
 returns-clause-posted g c from to =
     let same = rw c.deref_mut.ensures.value at c.settle_all.ensures.same in
