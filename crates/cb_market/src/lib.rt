@@ -10,7 +10,7 @@
 //! either has a first fault or reads as exactly one matrix; `read` returns the fault or the matrix. `cb_market_pages` writes
 //! matrices as texts.
 //!
-//! The reader visits each byte at most twice. It keeps only the entries. A size line that announces more
+//! The reader visits each byte a few times at most. It keeps only the entries. A size line that announces more
 //! entries than the text can hold doesn't make it allocate more.
 #![tactic(auto)]
 

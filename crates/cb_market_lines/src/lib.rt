@@ -3,8 +3,8 @@
 //! `specs/Reads.antt` defines line by line when a text reads as a matrix, and `specs/Faults.antt` which fault of a text
 //! is the first. Every text either has a first fault or reads as exactly one matrix.
 //!
-//! The reader is a cursor ([`Scanner`](scanner::Scanner)) that visits each byte at most twice. It takes no memory. `cb_market`
-//! reads texts with it into matrices.
+//! The reader is a cursor ([`Scanner`](scanner::Scanner)) that visits each byte a few times at most. It takes no memory.
+//! `cb_market` reads texts with it into matrices.
 #![tactic(auto)]
 
 ghost use Rattle.std.specs.Prelude.{◌≡◌};

@@ -1,4 +1,4 @@
-//! A cursor over the bytes of a text. It visits each byte once, or twice in a line that isn't plain.
+//! A cursor over the bytes of a text. A plain line is read at once, any other word by word.
 //!
 //! The cursor is the rest of the text. The contract of each step is stated over the lines and words of the rest
 //! (`specs/Cursor.antt`).
