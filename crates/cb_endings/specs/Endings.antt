@@ -1,5 +1,5 @@
 -- How a run of the program ends: what goes to standard output and to standard error, and the exit status.
-use Rattle.std.specs.Prelude.{◌≡◌, ◌≢◌, ℕ, List, [], codes, Option, Result, Ok, Err, String, string_bytes}
+use Rattle.std.specs.Prelude.{◌≡◌, ◌≢◌, ◌⊎◌, ℕ, List, [], Bool, true, false, codes, Option, Result, Ok, Err, String, string_bytes}
 use Rattle.std.specs.declared.alloc.Global.{Global}
 use Rattle.std.specs.Io.KnownBytes.{Appends, Keeps}
 use Rattle.cb_outcomes.specs.Sinks.{AppendsPrefix}
@@ -32,6 +32,15 @@ message_of names (Usage text) = string_bytes text
 message_of names Memory = codes "cbgrid: out of memory\n"
 message_of names (Unreadable which) = unreadable_line_of (name_at names which)
 message_of names (Fault fault) = line_of names fault
+
+-- A text is printed whole; or the stream has failed, and a beginning is printed. It is about what is known of the stream's bytes,
+-- before and after, and about whether it has failed.
+abbrev pub IsPrinted : Option (List ℕ) → Option (List ℕ) → Bool → List ℕ → Type 0
+IsPrinted old new has_failed text = (Appends old new text × (has_failed ≡ false)) ⊎ (AppendsPrefix old new text × (has_failed ≡ true))
+
+-- The text of an ending is printed; or, if memory for it is refused, the line that memory was.
+abbrev pub IsTold : {A : Type 0} → List (String A) → Ending → Option (List ℕ) → Option (List ℕ) → Bool → Type 0
+IsTold names ending old new has_failed = IsPrinted old new has_failed (message_of names ending) ⊎ IsPrinted old new has_failed (codes "cbgrid: out of memory\n")
 
 -- the ending of a job whose files can't all be loaded
 abbrev pub unloaded_ending : LoadFault → Ending
@@ -74,9 +83,9 @@ names_of (Ok job) = job.files.items
 names_of (Err fault) = []
 
 -- A run ends in one of these ways, for a command line that names these files: by what is known of the bytes on standard
--- error, before and after, and by its status.
-pub record IsRun (ends : Ending → Type 0) (names : List (String Global)) (err err_after : Option (List ℕ)) (status : Status) : Type 0 where
+-- error, before and after, by whether it has failed, and by its status. The status is that of the ending, whatever was printed.
+pub record IsRun (ends : Ending → Type 0) (names : List (String Global)) (err err_after : Option (List ℕ)) (has_failed : Bool) (status : Status) : Type 0 where
   pub ending : Ending
   pub is : ends ending
-  pub message : AppendsPrefix err err_after (message_of names ending)
+  pub message : IsTold names ending err err_after has_failed
   pub status_is : status_code status ≡ ending_status ending

@@ -1,5 +1,5 @@
 -- The lines that report faults.
-use Rattle.std.specs.Prelude.{ℕ, List, [], ◌++◌, codes, decimal, String, string_bytes, unwrap_or, option_map, slice_get}
+use Rattle.std.specs.Prelude.{ℕ, List, [], ◌++◌, ◌==◌, ◌||◌, nat_lt, cond, map, codes, decimal, String, string_bytes, unwrap_or, option_map, slice_get}
 use Rattle.cb_outcomes.specs.declared.faults.RanksFault.{RanksFault}
 use Rattle.cb_outcomes.specs.declared.faults.JobFault.{JobFault}
 use Rattle.cb_outcomes.specs.declared.faults.JobFault.TheVariants.{Read, Refused, Unselected, Ranks, Memory, Output, Absent}
@@ -16,9 +16,21 @@ name_at names i = unwrap_or (option_map string_bytes (slice_get names i)) []
 abbrev pub plain_line_of : List ℕ → List ℕ
 plain_line_of text = codes "cbgrid: " ++ text ++ codes "\n"
 
+-- a byte of a name as it is shown: a question mark in place of a control character, so that a message is one line
+abbrev pub shown_byte : ℕ → ℕ
+shown_byte byte = cond (nat_lt byte 32 || (byte == 127)) 63 byte
+
+-- a name as it is shown
+abbrev pub shown : List ℕ → List ℕ
+shown name = map shown_byte name
+
+-- the number of a line, and what is wrong there
+abbrev pub line_and_text : ℕ → List ℕ → List ℕ
+line_and_text line text = codes ":" ++ (decimal line ++ (codes ": " ++ (text ++ codes "\n")))
+
 -- a file's name, a line of it, and what is wrong there
 abbrev pub read_line_of : List ℕ → ℕ → List ℕ → List ℕ
-read_line_of name line text = codes "cbgrid: " ++ name ++ codes ":" ++ decimal line ++ codes ": " ++ text ++ codes "\n"
+read_line_of name line text = codes "cbgrid: " ++ shown name ++ line_and_text line text
 
 -- the line for ranks that failed
 abbrev pub ranks_line_of : RanksFault → List ℕ
@@ -47,4 +59,4 @@ line_of names Output = plain_line_of (codes "can't write")
 
 -- the line for a file that can't be read
 abbrev pub unreadable_line_of : List ℕ → List ℕ
-unreadable_line_of name = codes "cbgrid: " ++ name ++ codes ": can't be read\n"
+unreadable_line_of name = codes "cbgrid: " ++ shown name ++ codes ": can't be read\n"

@@ -1,8 +1,7 @@
 //! How a run of the program ends: what goes to standard output, the text for standard error, and the exit status.
 ghost use Rattle.std.specs.Prelude.{◌≡◌, IfOk, false};
 ghost use Rattle.std.specs.Process.{exit_status};
-ghost use Rattle.cb_outcomes.specs.Sinks.{AppendsPrefix};
-ghost use Rattle.cb_endings.specs.Endings.{message_of, ending_status, unloaded_ending, IsUsageEnding};
+ghost use Rattle.cb_endings.specs.Endings.{message_of, ending_status, unloaded_ending, IsPrinted, IsTold, IsUsageEnding};
 ghost use Rattle.cb_endings.specs.Statuses.{status_code};
 
 use crate::fault_lines::{fault_line, name_at, unreadable_line};
@@ -105,21 +104,31 @@ pub fn usage_ending<K: Sink>(fault: UsageFault, out: &mut K) -> Ending
     }
 }
 
-/// Prints the text of an ending. If memory for the text is refused, nothing is printed.
+/// Prints the text of an ending. If memory for it is refused, prints that memory was. If `err` fails, only a beginning of either
+/// is printed.
 fn print_message<E: Sink>(alloc: Global, names: &[String], ending: &Ending, err: &mut E)
     requires { E.has_failed err.old ≡ false }
-    ensures { AppendsPrefix (E.written err.old) (E.written err.new) (message_of names.now ending.now) }
+    ensures { IsTold names.now ending.now (E.written err.old) (E.written err.new) (E.has_failed err.new) }
 {
-    if let Ok(text) = ending.message(alloc, names) {
-        let _ = put_all(err, text.as_slice());
+    match ending.message(alloc, names) {
+        Ok(text) => print_all(err, text.as_slice()),
+        Err(_) => print_all(err, b"cbgrid: out of memory\n"),
     }
 }
 
-/// Prints the text of an ending for a job with these files, and returns the status. If memory for the text is refused, or
-/// `err` fails, only a beginning of it may be printed.
+/// Prints a text, or if `err` fails a beginning of it.
+fn print_all<E: Sink>(err: &mut E, text: &[u8])
+    requires { E.has_failed err.old ≡ false }
+    ensures { IsPrinted (E.written err.old) (E.written err.new) (E.has_failed err.new) text.now }
+{
+    let _ = put_all(err, text);
+}
+
+/// Prints the text of an ending for a job with these files, and returns the status, which is that of the ending whatever is
+/// printed. If memory for the text is refused, prints that memory was. If `err` fails, only a beginning of either is printed.
 pub fn finish<E: Sink>(alloc: Global, names: &[String], ending: &Ending, err: &mut E) -> Status
     requires { E.has_failed err.old ≡ false }
-    ensures message { AppendsPrefix (E.written err.old) (E.written err.new) (message_of names.now ending.now) }
+    ensures message { IsTold names.now ending.now (E.written err.old) (E.written err.new) (E.has_failed err.new) }
     ensures status { status_code result ≡ ending_status ending.now }
 {
     print_message(alloc, names, ending, err);

@@ -1,6 +1,6 @@
 //! The lines that report faults.
-ghost use Rattle.std.specs.Prelude.{◌≡◌, IfOk, string_bytes};
-ghost use Rattle.cb_endings.specs.FaultLines.{line_of, name_at, plain_line_of, ranks_line_of, read_line_of, unreadable_line_of};
+ghost use Rattle.std.specs.Prelude.{◌≡◌, ◌++◌, IfOk, codes, string_bytes};
+ghost use Rattle.cb_endings.specs.FaultLines.{line_and_text, line_of, name_at, plain_line_of, ranks_line_of, read_line_of, shown, shown_byte, unreadable_line_of};
 
 use cb_operations::Refusal;
 use cb_outcomes::faults::{JobFault, RanksFault, SelectionRefusal};
@@ -24,20 +24,52 @@ fn line(alloc: Global, text: &str) -> Result<Vec<u8>, AllocError>
     Ok(text.into_bytes())
 }
 
+/// A byte of a name as it is shown: `?` in place of a control character.
+fn shown_byte(byte: u8) -> u8
+    ensures { result ≡ shown_byte byte }
+{
+    if byte < 32 || byte == 127 { b'?' } else { byte }
+}
+
+/// A name as it is shown.
+fn shown(alloc: Global, name: &str) -> Result<Vec<u8>, AllocError>
+    ensures { IfOk result (λ v. v.items ≡ shown name.now) }
+{
+    let bytes = name.as_bytes();
+    bytes.iter().map(|byte| shown_byte(*byte)).collect(alloc)
+}
+
+/// The line of a file with this name, with this text after the name.
+fn named_line(alloc: Global, name: &str, text: &str) -> Result<Vec<u8>, AllocError>
+    ensures { IfOk result (λ v. v.items ≡ codes "cbgrid: " ++ shown name.now ++ text.now) }
+{
+    let shown = shown(alloc, name)?;
+    let mut line = Vec::from_slice(alloc, b"cbgrid: ")?;
+    line.extend_from_slice(&shown)?;
+    line.extend_from_slice(text.as_bytes())?;
+    Ok(line)
+}
+
+/// What follows a file's name: the number of a line, and what is wrong there.
+fn line_and_text(alloc: Global, line: u64, text: &str) -> Result<String, AllocError>
+    ensures { IfOk result (λ t. string_bytes t ≡ line_and_text line text.now) }
+{
+    format!(in alloc; ":{line}: {text}\n")
+}
+
 /// The line for a fault in a file.
 fn read_line(alloc: Global, name: &str, line: u64, text: &str) -> Result<Vec<u8>, AllocError>
     ensures { IfOk result (λ v. v.items ≡ read_line_of name.now line text.now) }
 {
-    let text = format!(in alloc; "cbgrid: {name}:{line}: {text}\n")?;
-    Ok(text.into_bytes())
+    let rest = line_and_text(alloc, line, text)?;
+    named_line(alloc, name, rest.as_str())
 }
 
 /// The line for a file that can't be opened or can't be read to its end.
 pub fn unreadable_line(alloc: Global, name: &str) -> Result<Vec<u8>, AllocError>
     ensures { IfOk result (λ v. v.items ≡ unreadable_line_of name.now) }
 {
-    let text = format!(in alloc; "cbgrid: {name}: can't be read\n")?;
-    Ok(text.into_bytes())
+    named_line(alloc, name, ": can't be read\n")
 }
 
 /// The line for ranks that failed.

@@ -1,63 +1,43 @@
 //! The files of a job, and the texts that are loaded from them.
-ghost use Rattle.std.specs.Prelude.{◌≡◌, ◌≤◌, ℕ, List, length, vec_len, vec_capacity, IfOk, IfErr, OnOk, OnErr};
+ghost use Rattle.std.specs.Prelude.{◌≡◌, ◌≤◌, ℕ, List, length, vec_len, vec_capacity, IfOk, IfErr, IsErrOf, OnOk};
 ghost use Rattle.std.specs.Thread.{IsSync};
 ghost use Rattle.cb_endings.specs.Files.{AreTexts, IsUnloaded};
+ghost use Rattle.cb_endings.specs.StoredFiles.{HoldsWhole, IsRefused};
 
 use crate::fault_lines::name_at;
-use crate::loading::OpenText;
+use crate::loading::{FileFault, load};
+use crate::stored::{FileStore, StoredFile};
 use cb_outcomes::texts::Text;
 use std::alloc::{AllocError, Global};
-use std::fs::File;
-use std::rt::Files;
 use std::thread::Threads;
-
-/// A file can't be opened, or can't be read to its end.
-#[derive(Clone, Copy)]
-pub struct Unreadable;
 
 /// A set of files, found by name.
 pub trait FileSource<R: Threads + Sync> {
     /// The file with this name may contain these bytes.
     ghost holds: { Self → List ℕ → List ℕ → Type 0 };
 
-    /// The file with this name may be unreadable, for any reason.
+    /// The file with this name may be unreadable.
     ghost refuses: { Self → List ℕ → Type 0 };
 
     /// Reads all bytes of the file with this name, by at most this many threads.
-    fn load(&self, rt: &R, name: &str, threads: u32) -> Result<Text, Unreadable>
+    fn load(&self, rt: &R, name: &str, threads: u32) -> Result<Text, FileFault>
         requires sync { IsSync R.row }
         ensures bytes { IfOk result (λ t. holds self.now name.now t) }
-        ensures refused { OnErr result (refuses self.now name.now) };
+        ensures refused { IsErrOf result FileFault.Unreadable → refuses self.now name.now };
 }
 
-/// The files of the system. Their contract promises nothing about the contents.
-#[derive(Drop)]
-pub struct SystemFiles<'a, H: Files<File = File> + AllocGlobal> {
-    files: &'a H,
-}
-
-impl<'a, H: Files<File = File> + AllocGlobal> SystemFiles<'a, H> {
-    /// The files that this handle reaches.
-    pub fn new(files: &'a H) -> SystemFiles<'a, H> {
-        SystemFiles { files }
-    }
-}
-
-impl<R: Threads + Sync, H: Files<File = File> + AllocGlobal> FileSource<R> for SystemFiles<'_, H> {
-    ghost holds = { λ _ _ _. Unit {0} };
-
-    ghost refuses = { λ _ _. Unit {0} };
-
-    fn load(&self, rt: &R, name: &str, threads: u32) -> Result<Text, Unreadable> {
-        let alloc = self.files.alloc();
-        let Ok(opened) = OpenText::open(self.files, alloc, name, threads) else {
-            return Err(Unreadable);
-        };
-        match opened.load(rt, alloc) {
-            Ok(text) => Ok(text),
-            Err(_) => Err(Unreadable),
-        }
-    }
+/// Loads the file with this name by at most this many threads.
+pub fn load_named<R: Threads + Sync, F: StoredFile, S: FileStore<F>>(
+    rt: &R,
+    store: &S,
+    name: &str,
+    threads: u32,
+) -> Result<Text, FileFault>
+    ensures bytes { IfOk result (HoldsWhole (S.opens store.now name.now) F.gives F.says) }
+    ensures refused { IsErrOf result FileFault.Unreadable → IsRefused (S.lacks store.now name.now) (S.opens store.now name.now) F.fails F.gives F.says }
+{
+    let file = store.open(name)?;
+    load(rt, store.alloc(), &file, threads)
 }
 
 /// Why the texts of a job can't all be loaded.
@@ -65,7 +45,7 @@ impl<R: Threads + Sync, H: Files<File = File> + AllocGlobal> FileSource<R> for S
 pub enum LoadFault {
     /// The file at this position in the list of names can't be read.
     Unreadable(usize),
-    /// Memory for the list of texts was refused.
+    /// Memory for the texts, or for their list, was refused.
     Memory,
 }
 
@@ -96,7 +76,8 @@ fn load_all<F: FileSource<R>, R: Threads + Sync>(
     for which in 0..names.len() {
         match files.load(rt, name_at(names, which), threads) {
             Ok(text) => texts.push_reserved(text),
-            Err(_) => return Err(LoadFault::Unreadable(which)),
+            Err(FileFault::Unreadable) => return Err(LoadFault::Unreadable(which)),
+            Err(FileFault::Memory) => return Err(LoadFault::Memory),
         }
     }
     Ok(())

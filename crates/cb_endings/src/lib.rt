@@ -13,7 +13,9 @@
 pub mod endings;
 pub mod fault_lines;
 pub mod files;
-mod loading;
+pub mod loading;
 pub mod runs;
 pub mod statuses;
+pub mod stored;
+pub mod system_files;
 pub mod system_runs;

@@ -61,8 +61,8 @@ fn job_ending<P: Program<R>, R: Threads + Sync, F: FileSource<R>, K: Sink>(
 /// Runs a program on a command line that was read. The answer or the help goes to `out`, the text of a fault to `err`.
 ///
 /// The files are loaded in the job's order before any text is parsed, and the first fault ends the run. The status and
-/// the text on `err` are those of the ending. If memory for that text is refused, or `err` fails, only a beginning of it
-/// may be printed.
+/// the text on `err` are those of the ending. If memory for that text is refused, the line that memory was is printed; if `err`
+/// fails, only a beginning is.
 pub fn run<P: Program<R>, R: Threads + Sync, F: FileSource<R>, K: Sink, E: Sink>(
     rt: &R,
     alloc: Global,
@@ -74,7 +74,7 @@ pub fn run<P: Program<R>, R: Threads + Sync, F: FileSource<R>, K: Sink, E: Sink>
     requires out { K.has_failed out.old ≡ false }
     requires err { E.has_failed err.old ≡ false }
     ensures { let ends = IsEnding P.answers P.faults (F.holds files.now) (F.refuses files.now) asked (K.written out.old) (K.written out.new) in
-        IsRun ends (names_of asked) (E.written err.old) (E.written err.new) result }
+        IsRun ends (names_of asked) (E.written err.old) (E.written err.new) (E.has_failed err.new) result }
 {
     match asked {
         Ok(job) => {

@@ -4,7 +4,7 @@
 
 use cb_cli::program::Cbgrid;
 use cb_endings::endings::Status;
-use cb_endings::files::SystemFiles;
+use cb_endings::system_files::SystemFiles;
 use cb_endings::system_runs::run_on_system;
 
 fn main(rt: HostRuntime) -> Status {

@@ -7,8 +7,8 @@ ghost use Rattle.cb_words.specs.declared.tasks.GraphTask.{GraphTask};
 ghost use Rattle.cbgrid_graphs.specs.GraphJobs.{Asks, IsJobAnswer, IsJobFault};
 
 use cb_endings::endings::Status;
-use cb_endings::files::SystemFiles;
 use cb_endings::runs::Program;
+use cb_endings::system_files::SystemFiles;
 use cb_endings::system_runs::run_on_system;
 use cb_graph_tasks::graph_tasks::execute_graph_task;
 use cb_outcomes::faults::JobFault;

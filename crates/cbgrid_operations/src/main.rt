@@ -6,8 +6,8 @@ ghost use Rattle.std.specs.Prelude.{◌≡◌, IfSome, None};
 ghost use Rattle.cbgrid_operations.specs.OperationJobs.{Asks, Done, IsJobAnswer, IsJobFault};
 
 use cb_endings::endings::Status;
-use cb_endings::files::SystemFiles;
 use cb_endings::runs::Program;
+use cb_endings::system_files::SystemFiles;
 use cb_endings::system_runs::run_on_system;
 use cb_operation_tasks::named_operations::execute_distributive_operation;
 use cb_operations::Operation;

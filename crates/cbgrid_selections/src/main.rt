@@ -6,8 +6,8 @@ ghost use Rattle.std.specs.Prelude.{◌≡◌, IfSome, None};
 ghost use Rattle.cbgrid_selections.specs.SelectionJobs.{Asks, Done, IsJobAnswer, IsJobFault};
 
 use cb_endings::endings::Status;
-use cb_endings::files::SystemFiles;
 use cb_endings::runs::Program;
+use cb_endings::system_files::SystemFiles;
 use cb_endings::system_runs::run_on_system;
 use cb_outcomes::faults::JobFault;
 use cb_outcomes::sinks::Sink;

@@ -1,4 +1,5 @@
 use Rattle.std.proofs.Common.{rules, subst}
+use Rattle.std.specs.Prelude.{Err}
 use Rattle.cb_endings.proofs.FileLemmas.{held_more, were_held}
 use Rattle.cb_endings.proofs.files.load_all.Goals as goal
 
@@ -12,9 +13,9 @@ loop-which-preserved g c =
       room = search rules;
     }
 
-pub returns-in-Err-clause-fault : goal.returns-in-Err-clause-fault
-returns-in-Err-clause-fault g c = (
+pub returns-in-Err-Unreadable-clause-fault : goal.returns-in-Err-Unreadable-clause-fault
+returns-in-Err-Unreadable-clause-fault g c = (
   search rules,
   were_held (g.F.FileSource.holds c.args.files.now) c.args.names.now c.loop-which.texts.items c.loop-which.which c.loop-which.invariant.held,
-  subst (g.F.FileSource.refuses c.args.files.now) c.name_at.ensures c.in-Err.ensures.refused,
+  subst (g.F.FileSource.refuses c.args.files.now) c.name_at.ensures (c.in-Err-Unreadable.ensures.refused (λ i. Err (c.in-Err-Unreadable.field-0-is i))),
 )
