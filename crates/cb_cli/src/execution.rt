@@ -4,13 +4,13 @@ ghost use Rattle.cb_words.specs.Jobs.{graph_file_count_of};
 ghost use Rattle.cb_cli.specs.JobEnds.{IsGraphEndBy, IsJobEnd, IsSearchEnd};
 
 use crate::job_operations::execute_operation;
+use crate::job_selections::execute_selection;
 use crate::ranks::{Ranks, ranks_of};
 use crate::searches_by_ranks::{put_distances, put_levels};
 use cb_graph_tasks::graph_tasks::execute_graph_task;
 use cb_outcomes::faults::JobFault;
 use cb_outcomes::sinks::Sink;
 use cb_outcomes::texts::Text;
-use cb_selection_tasks::named_selections::execute_selection;
 use cb_words::{GraphTask, Job, Task};
 use std::alloc::Global;
 use std::sync::Wait;

@@ -8,6 +8,7 @@
 
 pub mod execution;
 mod job_operations;
+mod job_selections;
 pub mod program;
 mod ranks;
 mod searches_by_ranks;

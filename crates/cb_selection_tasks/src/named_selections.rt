@@ -1,4 +1,4 @@
-//! Selections from the matrices of texts over the semiring of a name.
+//! Selections from the matrices of texts, over a semiring or over the distributive one of a name.
 ghost use Rattle.std.specs.Prelude.{◌≡◌, vec_len, true, false};
 ghost use Rattle.cb_semirings.specs.Names.{arithmetic_of};
 ghost use Rattle.cb_words.specs.Jobs.{is_distributive, selection_file_count_of};
@@ -10,13 +10,20 @@ use crate::selection_answers::{put_kronecker, put_selected};
 use cb_outcomes::faults::JobFault;
 use cb_outcomes::sinks::Sink;
 use cb_outcomes::texts::Text;
-use cb_semirings::{MaxMin, MinPlus, OrAnd, PlusTimes, Semiring, SemiringName, over_semiring};
+use cb_semirings::{MaxMin, MinPlus, OrAnd, PlusTimes, Semiring, SemiringName};
 use cb_words::SelectionTask;
 use std::alloc::Global;
 use std::thread::Threads;
 
-/// Writes a selection from the matrices of texts over a semiring.
-fn put_selection<S: Semiring + Send + Sync, R: Threads + Sync, K: Sink>(
+/// Writes a selection from the matrices of texts over a semiring. At most `threads` threads read and write; the caller's thread
+/// does everything else.
+///
+/// All memory is taken before the first byte is written: at a fault other than `Output` nothing has been written. At
+/// `Output` the sink has failed, which it has in no other case, and a beginning of the text has been written.
+///
+/// The first fault in this order is returned: a text that isn't a matrix; a selection that can't be made; want of memory;
+/// `Output`. Each text is dropped once it is read, so that its memory is free for the computation.
+pub fn put_selection<S: Semiring + Send + Sync, R: Threads + Sync, K: Sink>(
     rt: &R,
     alloc: Global,
     threads: u32,
@@ -42,35 +49,8 @@ fn put_selection<S: Semiring + Send + Sync, R: Threads + Sync, K: Sink>(
     }
 }
 
-/// Writes a selection from the matrices of texts, over the semiring of a name. At most `threads` threads read and write; the
-/// caller's thread does everything else.
-///
-/// All memory is taken before the first byte is written: at a fault other than `Output` nothing has been written. At
-/// `Output` the sink has failed, which it has in no other case, and a beginning of the text has been written.
-///
-/// The first fault in this order is returned: a text that isn't a matrix; a selection that can't be made; want of memory;
-/// `Output`. Each text is dropped once it is read, so that its memory is free for the computation.
-pub fn execute_selection<R: Threads + Sync, K: Sink>(
-    rt: &R,
-    alloc: Global,
-    threads: u32,
-    task: SelectionTask,
-    semiring: SemiringName,
-    texts: Vec<Text>,
-    out: &mut K,
-) -> Result<(), JobFault>
-    requires texts { vec_len texts ≡ selection_file_count_of task }
-    requires works { K.has_failed out.old ≡ false }
-    ensures { IsSelectionEnd task (arithmetic_of semiring) texts.items (K.written out.old) (K.written out.new) (K.has_failed out.new) result }
-{
-    over_semiring!(
-        semiring,
-        put_selection::<_, R, K>(rt, alloc, threads, task, texts, out)
-    )
-}
-
-/// Writes the same as [`execute_selection`], over a distributive semiring. A program that needs no others is compiled in
-/// less than half the time.
+/// Writes the same as [`put_selection`], over the distributive semiring of a name. A program that needs no others is compiled
+/// in less than half the time.
 pub fn execute_distributive_selection<R: Threads + Sync, K: Sink>(
     rt: &R,
     alloc: Global,

@@ -1,4 +1,4 @@
-use Rattle.cb_selection_tasks.proofs.named_selections.execute_selection.Goals as goal
+use Rattle.cb_cli.proofs.job_selections.execute_selection.Goals as goal
 
 pub returns-in-PlusTimes-over_semiring : goal.returns-in-PlusTimes-over_semiring
 returns-in-PlusTimes-over_semiring g c = rw c.in-PlusTimes-over_semiring.is c.over_semiring-put_selection.ensures
