@@ -73,10 +73,10 @@ is_column_part s m j is vs same some whole =
       rows = rows_all (λ i. i < m.shape.rows) j is vs same (All-weaker (IsInside m.shape) (λ e. e.row < m.shape.rows) (λ e k. k.0) es (All-back (IsInside m.shape) m.entries es whole.inside));
       column = next.inside.1;
       after = λ k d l.
-        let now : Sparse = record { shape = m.shape; entries = m.entries ++ entries_in j (take k is) (take k vs) } in
-        let here = next_in_column s m now j is vs k same l whole refl refl in
-        let at : get_or is k 0 ≡ get_or is k d = get_or_default is k 0 d l in
-        subst (λ i. All (λ e. IsBefore e (spot j i)) m.entries) at (All-front (λ e. IsBefore e (spot j (get_or is k 0))) m.entries (entries_in j (take k is) (take k vs)) here.order);
+          let now : Sparse = record { shape = m.shape; entries = m.entries ++ entries_in j (take k is) (take k vs) } in
+          let here = next_in_column s m now j is vs k same l whole refl refl in
+          let at : get_or is k 0 ≡ get_or is k d = get_or_default is k 0 d l in
+          subst (λ i. All (λ e. IsBefore e (spot j i)) m.entries) at (All-front (λ e. IsBefore e (spot j (get_or is k 0))) m.entries (entries_in j (take k is) (take k vs)) here.order);
       values = values_all (IsValue s) j is vs same (All-back (λ e. IsValue s e.value) m.entries es whole.values);
       not_zero = values_all (λ v. v ≢ s.zero) j is vs same (All-back (λ e. e.value ≢ s.zero) m.entries es whole.not_zero);
     }
