@@ -63,7 +63,7 @@ fn loaded<R: Threads + Sync>(
 }
 
 /// A file of lines of eleven bytes, this many, with these reads.
-fn stored(alloc: Global, count: u8, step: usize, bad: usize) -> Result<Stored, AllocError> {
+fn file_of(alloc: Global, count: u8, step: usize, bad: usize) -> Result<Stored, AllocError> {
     let bytes = lines(alloc, count)?;
     Ok(Stored {
         said: Some(bytes.len() as u64),
@@ -78,7 +78,7 @@ fn are_loaded_in_parts(rt: HostRuntime) -> Result<(), Fail> {
     // One read gives at least a line, so the end of one is found.
     for step in [11, 13, usize::MAX] {
         for count in 1..=5 {
-            let file = stored(rt.alloc(), 20, step, usize::MAX)?;
+            let file = file_of(rt.alloc(), 20, step, usize::MAX)?;
             let (parts, text) = loaded(&rt, rt.alloc(), &file, count).expect(&rt, "a text");
             assert!(rt; parts as u64 == count, "{step} {count}");
             assert!(rt; text.as_slice() == file.bytes.as_slice(), "{step} {count}");
@@ -91,7 +91,7 @@ fn are_loaded_in_parts(rt: HostRuntime) -> Result<(), Fail> {
 fn are_loaded_whole(rt: HostRuntime) -> Result<(), Fail> {
     for step in [1, 7, usize::MAX] {
         // A line that is longer than the reach, where the file would be cut.
-        let mut file = stored(rt.alloc(), 20, step, usize::MAX)?;
+        let mut file = file_of(rt.alloc(), 20, step, usize::MAX)?;
         for byte in file.bytes.iter_mut().skip(100).take(40) {
             *byte = b'x';
         }
@@ -124,12 +124,12 @@ fn are_refused(rt: HostRuntime) -> Result<(), Fail> {
     for step in [1, 7, usize::MAX] {
         // A read fails: the first, one in each third, one where the file ends.
         for bad in [0, 5, 100, 219, 220] {
-            let file = stored(rt.alloc(), 20, step, bad)?;
+            let file = file_of(rt.alloc(), 20, step, bad)?;
             assert!(rt; is_refused(&rt, rt.alloc(), &file), "{step} {bad}");
         }
         // It has more bytes than it said, or fewer.
         for said in [0, 1, 110, 219, 221, 230, 1000] {
-            let mut file = stored(rt.alloc(), 20, step, usize::MAX)?;
+            let mut file = file_of(rt.alloc(), 20, step, usize::MAX)?;
             file.said = Some(said);
             assert!(rt; is_refused(&rt, rt.alloc(), &file), "{step} {said}");
         }
