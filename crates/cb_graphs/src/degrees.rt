@@ -1,6 +1,6 @@
 //! Degrees: how many entries each row or column of a block has. In the graph of a square block, these are the edges that
 //! leave a vertex, and those that lead to it.
-ghost use Rattle.std.specs.Prelude.{◌≡◌, ℕ, ◌<◌, ◌==◌, length, slice_index, count_by, All, IfOk, OnOk};
+ghost use Rattle.std.specs.Prelude.{◌≡◌, IfOk, OnOk};
 ghost use Rattle.cb_semirings.specs.Tables.{plus_times};
 ghost use Rattle.cb_matrix.specs.Sparse.{IsMatrix};
 ghost use Rattle.cb_matrix.specs.Values.{empty_matrix};
@@ -8,57 +8,14 @@ ghost use Rattle.cb_graphs.specs.Degrees.{row_degrees, column_degrees};
 
 use cb_dcsc::Block;
 use cb_matrix::{Entry, Shape};
-use cb_reshape::{column_of_list, has_few_rows, transpose};
-use cb_searches::column_shape;
+use cb_reshape::transpose;
 use cb_semirings::{PlusTimes, Semiring};
 use std::alloc::{AllocError, Global};
 
 /// Returns how many entries each row of a block has, in one column over plus-times. A row without entries isn't stored.
 ///
-/// Costs one pass over the entries, and a list of one number for each row of the shape. If there are more than four rows for
-/// each entry, it costs a transpose instead.
+/// Costs a transpose.
 pub fn row_degrees<S: Semiring>(
-    alloc: Global,
-    block: &Block<S>,
-) -> Result<Block<PlusTimes>, AllocError>
-    ensures { IfOk result (λ degrees. degrees ≡ row_degrees S.arithmetic block.now) }
-{
-    if has_few_rows(block) {
-        counted_row_degrees(alloc, block)
-    } else {
-        turned_row_degrees(alloc, block)
-    }
-}
-
-/// The degrees of all rows, by a list of counts.
-fn counted_row_degrees<S: Semiring>(
-    alloc: Global,
-    block: &Block<S>,
-) -> Result<Block<PlusTimes>, AllocError>
-    ensures { IfOk result (λ degrees. degrees ≡ row_degrees S.arithmetic block.now) }
-{
-    let shape = column_shape(block.shape());
-    let counts = row_counts(alloc, shape.rows(), block.row_numbers())?;
-    column_of_list(alloc, shape, &counts)
-}
-
-/// How often each number below `count` is among these rows.
-fn row_counts(alloc: Global, count: u32, rows: &[u32]) -> Result<Vec<u64>, AllocError>
-    requires { All (λ r. r < count) rows.now }
-    ensures count { IfOk result (λ v. length v.items ≡ count) }
-    ensures counts { IfOk result (λ v. (i : ℕ) → i < count → slice_index v.items i ≡ count_by (λ r. r == i) rows.now) }
-{
-    let mut counts = vec![in alloc; 0u64; count as usize]?;
-    for row in rows {
-        let place = *row as usize;
-        let count = counts[place];
-        counts[place] = count + 1;
-    }
-    Ok(counts)
-}
-
-/// The degrees of all rows, as those of the columns of the transpose.
-fn turned_row_degrees<S: Semiring>(
     alloc: Global,
     block: &Block<S>,
 ) -> Result<Block<PlusTimes>, AllocError>
