@@ -1,9 +1,11 @@
 //! A run of a program, from a command line that was read to the exit status.
-ghost use Rattle.std.specs.Prelude.{◌≡◌, ℕ, List, vec_len, false};
+ghost use Rattle.std.specs.Prelude.{◌≡◌, ℕ, List, Result, vec_len, false};
 ghost use Rattle.std.specs.Thread.{IsSync};
 ghost use Rattle.cb_outcomes.specs.WriteEnds.{IsEndOn};
 ghost use Rattle.cb_outcomes.specs.declared.faults.JobFault.{JobFault};
+ghost use Rattle.cb_words.specs.Lines.{IsReading};
 ghost use Rattle.cb_words.specs.declared.jobs.Job.{Job};
+ghost use Rattle.cb_words.specs.declared.jobs.UsageFault.{UsageFault};
 ghost use Rattle.cb_endings.specs.Endings.{IsEnding, IsJobEnding, IsRun, names_of};
 
 use crate::endings::{Ending, Status, finish, unloaded, usage_ending};
@@ -11,7 +13,7 @@ use crate::files::{FileSource, texts_of};
 use cb_outcomes::faults::JobFault;
 use cb_outcomes::sinks::Sink;
 use cb_outcomes::texts::Text;
-use cb_words::{Job, UsageFault};
+use cb_words::{CommandLine, Job, UsageFault, asked};
 use std::alloc::Global;
 use std::thread::Threads;
 
@@ -86,4 +88,23 @@ pub fn run<P: Program<R>, R: Threads + Sync, F: FileSource<R>, K: Sink, E: Sink>
             finish(alloc, &[], &ending, err)
         }
     }
+}
+
+/// Runs a program on the job that a command line asks for, as [`run`] does.
+pub fn run_on_line<
+    P: Program<R>,
+    R: Threads + Sync,
+    L: CommandLine,
+    F: FileSource<R>,
+    K: Sink,
+    E: Sink,
+>(rt: &R, alloc: Global, line: &L, files: &F, out: &mut K, err: &mut E) -> Status
+    requires out { K.has_failed out.old ≡ false }
+    requires err { E.has_failed err.old ≡ false }
+    ensures { (asked : Result Job UsageFault) × IsReading (L.holds line.now) asked
+        × (let ends = IsEnding P.answers P.faults (F.holds files.now) (F.refuses files.now) asked (K.written out.old) (K.written out.new) in
+        IsRun ends (names_of asked) (E.written err.old) (E.written err.new) (E.has_failed err.new) result) }
+{
+    let job = asked(rt, alloc, line);
+    run::<P, R, F, K, E>(rt, alloc, job, files, out, err)
 }

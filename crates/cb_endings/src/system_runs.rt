@@ -1,9 +1,9 @@
 //! A run of a program on the system.
 use crate::endings::Status;
 use crate::files::FileSource;
-use crate::runs::{Program, run};
+use crate::runs::{Program, run_on_line};
 use cb_outcomes::sinks::WriterSink;
-use cb_words::asked;
+use cb_words::SystemLine;
 use std::io;
 use std::io::Write;
 use std::rt::Env;
@@ -19,5 +19,6 @@ pub fn run_on_system<
 >(rt: &R, files: &F, errors: W) -> Status {
     let mut out = WriterSink::new(io::writer(rt));
     let mut errors = WriterSink::new(errors);
-    run::<P, R, F, _, _>(rt, rt.alloc(), asked(rt), files, &mut out, &mut errors)
+    let line = SystemLine::new(rt);
+    run_on_line::<P, R, _, F, _, _>(rt, rt.alloc(), &line, files, &mut out, &mut errors)
 }

@@ -1,1 +1,5 @@
+pub mod CommandLemmas
+pub mod NegativeLemmas
 pub mod OptionLemmas
+pub mod PlainLemmas
+pub mod WorkedRows

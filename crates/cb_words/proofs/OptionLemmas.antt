@@ -1,5 +1,5 @@
 -- What the getters of `clap` give, by the rows of a command.
-use Rattle.std.proofs.Common.{◌≡◌, ◌∙◌, ◌<◌, ◌^◌, ◌&&◌, ◌+◌, ◌++◌, ℕ, Bool, true, false, refl, sym, ap, cond, List, [], ◌∷◌, length, map, Option, Some, None, Result, Ok, Err, true≢false, nat_lt, lt-ltb, ltb-true, is_some, ℤ, IfSome}
+use Rattle.std.proofs.Common.{◌≡◌, ◌∙◌, ◌^◌, ◌&&◌, ℕ, Bool, true, false, refl, sym, ap, cond, List, [], ◌∷◌, length, Option, Some, None, Result, Ok, Err, true≢false, nat_lt, lt-ltb, ltb-true, is_some, ℤ, IfSome}
 use Rattle.std.specs.Prelude.{bytes_eq, find, option_and_then, option_map}
 use Rattle.std.specs.List.{list_all}
 use Rattle.std.specs.Char.{digit_value}

@@ -1,5 +1,5 @@
 -- What a command asks for by its options and files.
-use Rattle.std.specs.Prelude.{◌≡◌, ◌≤◌, ◌<◌, ◌+◌, ◌*◌, ◌||◌, ℕ, ℤ, pos, negsuc, suc, Bool, true, List, [], ◌∷◌, map, min, max}
+use Rattle.std.specs.Prelude.{◌≡◌, ◌≤◌, ◌<◌, ◌+◌, ◌*◌, ◌||◌, ℕ, ℤ, pos, negsuc, suc, Bool, List, [], ◌∷◌, map, min, max}
 use Rattle.std.specs.Prelude.{Option, Some, None, if◌then◌else◌, MatchOption, codes, option_map, option_and_then, unwrap_or}
 use Rattle.std.specs.Prelude.{bytes_eq, string_bytes, IsSomeAnd, Vec, String}
 use Rattle.std.specs.Bool.{MatchBool}

@@ -1,3 +1,5 @@
 pub mod Asked
 pub mod Jobs
+pub mod Lines
 pub mod Options
+pub mod Table

@@ -1,5 +1,12 @@
 //! The commands of the program and their options, as `clap` builds them.
 
+ghost use Rattle.std.specs.Prelude.{◌≡◌, ◌++◌, IfOk, OnOk, map, [], ◌∷◌};
+ghost use Rattle.clap.specs.Walk.{texts};
+ghost use Rattle.clap.specs.Simple.{app_of};
+ghost use Rattle.cb_words.specs.Table.{IsOfTable, all_shapes, arg_rule, choice_rule, command_shape, file, graph_lines};
+ghost use Rattle.cb_words.specs.Table.{operation_lines, outline_line, rank_options, rules_between, search_lines, selection_lines};
+ghost use Rattle.cb_words.specs.Table.{semiring_option, shape_of_line, start_shape, version_option};
+
 use cb_semirings::NAMES;
 use clap::builder::ValueParser;
 use clap::{Arg, ArgAction, Command};
@@ -241,57 +248,69 @@ const BY_RANKS: &[Choice] = &[
 ];
 
 // Each table is read by a function of its own: a proof that has several long texts before it costs more than each alone.
-fn operations() -> &'static [Outline] {
+fn operations() -> &'static [Outline]
+    ensures { map outline_line result.now ≡ operation_lines }
+{
     OPERATIONS
 }
 
-fn selections() -> &'static [Outline] {
+fn selections() -> &'static [Outline]
+    ensures { map outline_line result.now ≡ selection_lines }
+{
     SELECTIONS
 }
 
-fn searches() -> &'static [Outline] {
+fn searches() -> &'static [Outline]
+    ensures { map outline_line result.now ≡ search_lines }
+{
     SEARCHES
 }
 
-fn graphs() -> &'static [Outline] {
+fn graphs() -> &'static [Outline]
+    ensures { map outline_line result.now ≡ graph_lines }
+{
     GRAPHS
 }
 
-fn by_ranks() -> &'static [Choice] {
+fn by_ranks() -> &'static [Choice]
+    ensures { map choice_rule result.now ≡ rank_options }
+{
     BY_RANKS
 }
 
 /// The first option of the commands over a semiring.
-fn semiring() -> Choice {
+fn semiring() -> Choice
+    ensures { choice_rule result ≡ semiring_option }
+{
     choice!(--semiring <NAME> = "plus-times", ValueParser::Names(NAMES.as_slice()); "What adds and multiplies values")
 }
 
-fn takes_negative_numbers(parser: ValueParser<'static>) -> bool {
-    matches!(parser, ValueParser::Signed(..))
-}
-
 /// Builds an option.
-fn option_of<'a>(alloc: Global, choice: &Choice) -> Arg<'a> {
-    let takes_negative_numbers = takes_negative_numbers(choice.parser);
+fn option_of<'a>(alloc: Global, choice: &Choice) -> Arg<'a>
+    ensures { arg_rule result ≡ choice_rule choice.now }
+{
     Arg::new(alloc, choice.name)
         .long(choice.name)
         .help(choice.help)
         .action(choice.action)
         .value_names(choice.value)
         .value_parser(choice.parser)
-        .allow_negative_numbers(takes_negative_numbers)
         .default_values(choice.default)
         .required(choice.is_required)
 }
 
-fn file<'a>(alloc: Global, name: &'a str) -> Arg<'a> {
+fn file<'a>(alloc: Global, name: &'a str) -> Arg<'a>
+    ensures { arg_rule result ≡ file name.now }
+{
     Arg::new(alloc, name)
         .required(true)
         .help("A Matrix Market file")
 }
 
 /// `--version`, which help shows after `--help`.
-fn version<'a>(alloc: Global) -> Arg<'a> {
+fn version<'a>(alloc: Global) -> Arg<'a>
+    ensures { arg_rule result ≡ version_option }
+{
     let version = choice!(--version Version, ValueParser::String; "Print the version");
     option_of(alloc, &version).short('V').display_order(1000)
 }
@@ -301,7 +320,9 @@ fn push_files<'a>(
     alloc: Global,
     arguments: &mut Vec<Arg<'a>>,
     files: &[&'a str],
-) -> Result<(), AllocError> {
+) -> Result<(), AllocError>
+    ensures { OnOk result (map arg_rule arguments.new.items ≡ map arg_rule arguments.old.items ++ map (λ name. file name.now) files.now) }
+{
     for name in files {
         arguments.push(file(alloc, name))?;
     }
@@ -313,7 +334,9 @@ fn push_options<'a>(
     alloc: Global,
     arguments: &mut Vec<Arg<'a>>,
     choices: &[Choice],
-) -> Result<(), AllocError> {
+) -> Result<(), AllocError>
+    ensures { OnOk result (map arg_rule arguments.new.items ≡ map arg_rule arguments.old.items ++ map choice_rule choices.now) }
+{
     for choice in choices {
         arguments.push(option_of(alloc, choice))?;
     }
@@ -327,11 +350,14 @@ fn push_arguments<'a>(
     outline: &Outline,
     first: &[Choice],
     last: &[Choice],
-) -> Result<(), AllocError> {
+) -> Result<(), AllocError>
+    ensures { OnOk result (map arg_rule arguments.new.items ≡ map arg_rule arguments.old.items ++ rules_between first.now last.now outline.now) }
+{
     push_files(alloc, arguments, outline.files)?;
     push_options(alloc, arguments, first)?;
     push_options(alloc, arguments, outline.options)?;
-    push_options(alloc, arguments, last)
+    push_options(alloc, arguments, last)?;
+    Ok(())
 }
 
 /// Builds a command from its outline, with options that it shares with others before and after its own.
@@ -340,13 +366,16 @@ fn command<'a>(
     outline: &Outline,
     first: &[Choice],
     last: &[Choice],
-) -> Result<Command<'a>, AllocError> {
+) -> Result<Command<'a>, AllocError>
+    ensures { IfOk result (λ made. command_shape made ≡ shape_of_line (map choice_rule first.now) (map choice_rule last.now) (outline_line outline.now)) }
+{
     let mut arguments = Vec::new(alloc);
     push_arguments(alloc, &mut arguments, outline, first, last)?;
-    Command::new(alloc, outline.name)
+    let made = Command::new(alloc, outline.name)
         .about(outline.about)
         .after_help(outline.after_help)
-        .args(arguments)
+        .args(arguments)?;
+    Ok(made)
 }
 
 /// Appends the commands with these outlines to a list.
@@ -356,7 +385,10 @@ fn push_commands<'a>(
     outlines: &[Outline],
     first: &[Choice],
     last: &[Choice],
-) -> Result<(), AllocError> {
+) -> Result<(), AllocError>
+    ensures { let made = map (λ o. shape_of_line (map choice_rule first.now) (map choice_rule last.now) (outline_line o)) outlines.now in
+        OnOk result (map command_shape commands.new.items ≡ map command_shape commands.old.items ++ made) }
+{
     for outline in outlines {
         let made = command(alloc, outline, first, last)?;
         commands.push(made)?;
@@ -365,16 +397,21 @@ fn push_commands<'a>(
 }
 
 /// Appends all commands to a list.
-fn push_all_commands<'a>(alloc: Global, commands: &mut Vec<Command<'a>>) -> Result<(), AllocError> {
+fn push_all_commands<'a>(alloc: Global, commands: &mut Vec<Command<'a>>) -> Result<(), AllocError>
+    ensures { OnOk result (map command_shape commands.new.items ≡ map command_shape commands.old.items ++ all_shapes) }
+{
     let semiring = [semiring()];
     push_commands(alloc, commands, operations(), &semiring, by_ranks())?;
     push_commands(alloc, commands, selections(), &semiring, &[])?;
     push_commands(alloc, commands, searches(), &[], by_ranks())?;
-    push_commands(alloc, commands, graphs(), &[], &[])
+    push_commands(alloc, commands, graphs(), &[], &[])?;
+    Ok(())
 }
 
 /// The program, without its option and its commands.
-fn program_alone<'a>(alloc: Global) -> Command<'a> {
+fn program_alone<'a>(alloc: Global) -> Command<'a>
+    ensures { app_of result ≡ record { top = start_shape; subs = [] } }
+{
     Command::new(alloc, "cbgrid")
         .about("Sparse matrices over semirings, read and written as Matrix Market files")
         .after_help(AFTER_HELP)
@@ -385,10 +422,12 @@ fn program_alone<'a>(alloc: Global) -> Command<'a> {
 }
 
 /// Builds the program with all its commands.
-pub fn program<'a>(alloc: Global) -> Result<Command<'a>, AllocError> {
+pub fn program<'a>(alloc: Global) -> Result<Command<'a>, AllocError>
+    ensures { IfOk result (λ made. IsOfTable (app_of made)) }
+{
     let mut commands = Vec::new(alloc);
     push_all_commands(alloc, &mut commands)?;
-    program_alone(alloc)
-        .subcommands(commands)?
-        .arg(version(alloc))
+    let program = program_alone(alloc).subcommands(commands)?;
+    let whole = program.arg(version(alloc))?;
+    Ok(whole)
 }

@@ -1,4 +1,4 @@
-//! Conflicts between options that `clap` accepts one by one.
+//! Usage errors that `clap` doesn't find.
 use crate::options::{has_word, is_there};
 use crate::selection_words::{lists_of, takes_number};
 use clap::ArgMatches;
@@ -9,6 +9,12 @@ macro_rules! usage_error {
         concat!("error: ", $wrong, "\n\nUsage: cbgrid ", $usage, "\n\nFor more information, try '--help'.\n")
     };
 }
+
+/// A word that isn't text.
+pub const NOT_UTF8: &str = usage_error!(
+    "a word of the command line is not valid UTF-8",
+    "<COMMAND>"
+);
 
 /// A function that takes a number without `--value`.
 const NO_NUMBER: &str = usage_error!(

@@ -1,26 +1,29 @@
 //! Reads a command line. `clap` checks its words: an unknown command or option, a missing file, a surplus one, a repeated
 //! option and an unknown value are usage errors.
-ghost use Rattle.std.specs.Prelude.{◌≢◌, String, ◌≡◌, IfOk, IfSome, vec_len};
-ghost use Rattle.std.specs.declared.io.ErrorKind.TheVariants as io_is;
+ghost use Rattle.std.specs.Prelude.{◌≢◌, String, ◌≡◌, ◌+◌, ◌<◌, IfOk, IfSome, length, map, string_bytes, vec_len};
 ghost use Rattle.clap.specs.Words.{kind_of, subcommand_rows_of};
 ghost use Rattle.cb_words.specs.Asked.{IsJobIn, IsJobOf};
 ghost use Rattle.cb_words.specs.Jobs.{AsksForText, file_count_of};
+ghost use Rattle.cb_words.specs.Lines.{IsAskedBy, IsReadAs, IsReading, joined_at};
 ghost use Rattle.cb_words.specs.Options.{rows_in};
 
+use crate::command_lines::CommandLine;
 use crate::commands::program;
 use crate::conflicts::conflict_in;
 use crate::engine_words::{engine_of, side_of, threads_of};
 use crate::file_words::{arguments, files_of};
 use crate::jobs::{Job, UsageFault};
+use crate::negative_words::{negative_place, push_words};
 use crate::task_words::task_of;
 use clap::ArgMatches;
 use clap::error::ErrorKind;
 use std::alloc::{AllocError, Global};
-use std::rt::Env;
+use std::convert::AsStr;
+use std::thread;
 use std::thread::Threads;
-use std::{env, io, thread};
 
-fn usage(alloc: Global, text: &str) -> UsageFault
+/// A usage error with a text.
+pub fn usage(alloc: Global, text: &str) -> UsageFault
     ensures { (told : String Global) → result ≢ UsageFault.Help told }
 {
     match String::from_str(alloc, text) {
@@ -74,38 +77,11 @@ fn job_of(
     }))
 }
 
-/// The fault of words that can't be taken from the system: memory was refused, or a word isn't valid UTF-8.
-fn unread_words(alloc: Global, kind: io::ErrorKind) -> UsageFault
-    ensures memory { kind ≡ io_is.OutOfMemory → result ≡ UsageFault.Memory }
-    ensures help { (told : String Global) → result ≢ UsageFault.Help told }
-{
-    if kind == io::ErrorKind::OutOfMemory {
-        return UsageFault::Memory;
-    }
-    usage(
-        alloc,
-        "error: a word of the command line is not valid UTF-8\n",
-    )
-}
-
 /// The number of available processors, or 4 if the system doesn't report it.
 fn processors<R: Threads>(rt: &R) -> usize {
     match thread::available_parallelism(rt) {
         Ok(processors) => processors.get(),
         Err(_) => 4,
-    }
-}
-
-/// Reads the program's own command line, as [`read_job`] does.
-pub fn asked<R: Env + AllocGlobal + Threads>(rt: &R) -> Result<Job, UsageFault> {
-    let alloc = rt.alloc();
-    let processors = processors(rt);
-    match env::args(rt) {
-        Ok(words) => {
-            let words: Vec<String> = words.collect(alloc)?;
-            read_job(alloc, words.as_slice(), processors)
-        }
-        Err(error) => Err(unread_words(alloc, error.kind())),
     }
 }
 
@@ -129,15 +105,57 @@ fn job_in(alloc: Global, matches: &ArgMatches<'_>, processors: usize) -> Result<
     }
 }
 
+/// Reads words that `clap` takes as they are.
+fn read_words<S: AsStr>(alloc: Global, words: &[S], processors: usize) -> Result<Job, UsageFault>
+    ensures count { IfOk result (λ job. vec_len job.files ≡ file_count_of job.task) }
+    ensures asked { IfOk result (IsReadAs processors (map S.text words.now)) }
+{
+    let program = program(alloc)?;
+    match program.try_get_matches_from(words) {
+        Ok(matches) => job_in(alloc, &matches, processors),
+        Err(error) => Err(fault_of(alloc, &error)),
+    }
+}
+
+/// Reads words whose word at a place is `--diagonal` and whose next one is a negative number, both as one word.
+fn read_joined(
+    alloc: Global,
+    words: &[String],
+    place: usize,
+    processors: usize,
+) -> Result<Job, UsageFault>
+    requires { place + 1 < length words.now }
+    ensures count { IfOk result (λ job. vec_len job.files ≡ file_count_of job.task) }
+    ensures asked { IfOk result (IsReadAs processors (joined_at (map string_bytes words.now) (Some place))) }
+{
+    let mut number = String::from_str(alloc, "--diagonal=")?;
+    number.push_str(words[place + 1].as_str())?;
+    let mut joined = Vec::with_capacity(alloc, words.len())?;
+    push_words(&mut joined, &words[..place])?;
+    joined.push(number.as_str())?;
+    push_words(&mut joined, &words[place + 2..])?;
+    read_words(alloc, joined.as_slice(), processors)
+}
+
 /// Reads the words of a command line. The first word is the program's name.
 ///
 /// The job names as many files as its task reads. Defaults depend on the command and on the number of processors. If the
 /// words aren't a job, the `UsageFault` holds the text to print.
+#[tactic(auto, unfolding(crate::specs::Lines::joined))]
 pub fn read_job(alloc: Global, words: &[String], processors: usize) -> Result<Job, UsageFault>
-    ensures { IfOk result (λ job. vec_len job.files ≡ file_count_of job.task) }
+    ensures count { IfOk result (λ job. vec_len job.files ≡ file_count_of job.task) }
+    ensures asked { IfOk result (IsAskedBy processors (map string_bytes words.now)) }
 {
-    match program(alloc)?.try_get_matches_from(words) {
-        Ok(matches) => job_in(alloc, &matches, processors),
-        Err(error) => Err(fault_of(alloc, &error)),
+    match negative_place(words) {
+        Some(place) => read_joined(alloc, words, place, processors),
+        None => read_words(alloc, words, processors),
     }
+}
+
+/// Reads a command line, as [`read_job`] does.
+pub fn asked<L: CommandLine, R: Threads>(rt: &R, alloc: Global, line: &L) -> Result<Job, UsageFault>
+    ensures { IsReading (L.holds line.now) result }
+{
+    let words = line.words(alloc)?;
+    read_job(alloc, words.as_slice(), processors(rt))
 }

@@ -1,4 +1,4 @@
-use Rattle.std.proofs.Common.{◌≡◌, ◌∙◌, ap, sym, arith, map, take, List, ℕ, Bor}
+use Rattle.std.proofs.Common.{◌∙◌, ap, sym, arith, map, List, ℕ, Bor}
 use Rattle.std.proofs.lemmas.List.{take_all}
 use Rattle.std.proofs.lemmas.Simd.{map-map}
 use Rattle.cb_words.specs.Options.{rows_in, word}
