@@ -1,3 +1,4 @@
 pub mod LastItems
 pub mod NewRings
 pub mod Sent
+pub mod Backs

@@ -1,2 +1,4 @@
 pub mod Rings
 pub mod Crews
+pub mod Backs
+pub mod CrewRooms

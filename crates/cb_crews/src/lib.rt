@@ -18,6 +18,7 @@ mod crew;
 mod hiring;
 mod lines;
 mod messages;
+mod rooms;
 mod workers;
 
 pub use crew::Crew;

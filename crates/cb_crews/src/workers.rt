@@ -1,8 +1,10 @@
 //! One worker: what its thread does, and the crew's end of it.
-ghost use Rattle.std.specs.Prelude.{◌≡◌, Some, IfOk, IfErr};
+ghost use Rattle.std.specs.Prelude.{◌≡◌, Some, IfOk, IfErr, IfSome};
 ghost use Rattle.rtrb.specs.Ring.{sent, received};
-ghost use Rattle.cb_ranks.specs.Crews.{Ran};
+ghost use Rattle.cb_ranks.specs.Crews.{Member as MemberView, Ran};
 ghost use Rattle.cb_ranks.specs.Runs.{IsNewRun};
+ghost use Rattle.std.specs.Option.{option_map};
+ghost use Rattle.cb_crews.specs.Backs.{BackView, was_given};
 ghost use Rattle.cb_crews.specs.Rings.{put_ring, last_item};
 
 use crate::lines::{Receiver, Sender};
@@ -13,6 +15,7 @@ use cb_rank::Rank;
 use cb_ranks::{Gate, Member, run_rank};
 use cb_semirings::Semiring;
 use rtrb::Producer;
+use std::marker::Model;
 use std::snapshot::Snapshot;
 use std::sync::Wait;
 use std::thread::Threads;
@@ -75,28 +78,73 @@ impl<S: Semiring, J: Naming> Idle<S, J> {
     }
 }
 
-impl<S: Semiring, J: Naming> Busy<S, J> {
-    /// Waits for what is left of the rank and its desk. If nothing is, the error is the number of the rank.
-    pub(crate) fn wait<R: Wait>(self, rt: &R) -> Result<(Idle<S, J>, Member<S>), u16>
-        ensures ran { IfOk result (λ done. Ran S.arithmetic self.errand.value done.1) }
-        ensures gone { IfErr result (λ number. number ≡ self.errand.value.1.me) }
+/// What came back of a worker with this errand: the worker without one, and the rank and its desk as they were left. Or the
+/// number of the rank, if nothing is left of it. Only [`Busy::wait`] makes it.
+#[derive(Drop)]
+pub(crate) struct Back<S: Semiring, J: Naming> {
+    rank: u16,
+    left: Option<(Idle<S, J>, Member<S>)>,
+    errand: Snapshot<Errand<S>>,
+}
+
+impl<S: Semiring, J: Naming> Model for Back<S, J> {
+    ghost Value = { BackView };
+
+    ghost view = { λ b. (b.errand.value, option_map (λ done. done.1) b.left) };
+
+    ghost invariant = { λ b. IfSome b.left (λ done. Ran S.arithmetic b.errand.value done.1) × (b.rank ≡ b.errand.value.1.me) };
+}
+
+impl<S: Semiring, J: Naming> Back<S, J> {
+    /// The worker and what is left of its rank, or the number of the rank.
+    pub(crate) fn into_left(self) -> Result<(Idle<S, J>, Member<S>), u16>
+        ensures ran { IfOk result (λ done. Ran S.arithmetic (was_given self) done.1) }
+        ensures gone { IfErr result (λ number. number ≡ (was_given self).1.me) }
     {
-        let Busy {
-            mut worker,
+        let Back {
             rank,
+            left,
             errand: _,
         } = self;
+        left.ok_or(rank)
+    }
+}
+
+impl<S: Semiring, J: Naming> Busy<S, J> {
+    /// Waits for what is left of the rank and its desk.
+    pub(crate) fn wait<R: Wait>(self, rt: &R) -> Back<S, J>
+        ensures { was_given result ≡ self.errand.value }
+    {
+        let Busy {
+            worker,
+            rank,
+            errand,
+        } = self;
+        Back {
+            rank,
+            left: worker.wait(rt),
+            errand,
+        }
+    }
+}
+
+impl<S: Semiring, J: Naming> Worker<S, J> {
+    /// Waits for what is left of the errand that was put in last, if anything is.
+    fn wait<R: Wait>(self, rt: &R) -> Option<(Idle<S, J>, Member<S>)>
+        ensures { IfSome result (λ done. (given : MemberView) → last_item (sent self.errands) ≡ Some given → Ran S.arithmetic given done.1) }
+    {
+        let mut worker = self;
         let Some(answer) = worker.answers.receive(rt) else {
-            return Err(rank);
+            return None;
         };
         let Answer { mut slip, left } = answer;
         if slip.number != worker.number || slip.ring.slots_beside(&mut worker.errands) != 0 {
-            return Err(rank);
+            return None;
         }
         let Ok(member) = left else {
-            return Err(rank);
+            return None;
         };
-        Ok((Idle { worker, slip }, member))
+        Some((Idle { worker, slip }, member))
     }
 }
 

@@ -30,7 +30,7 @@ use Rattle.cb_plan.specs.PlanTables.{cell, IsTable}
 use Rattle.cb_plan.proofs.PassingActs.{checked_passes}
 use Rattle.cb_plan.proofs.ActOnStores.{first_below}
 use Rattle.cb_lanes.specs.declared.desk.Desk.{Desk}
-use Rattle.cb_lanes.specs.Desks.{identity, posted_to, taken_from, posted_in, taken_in, AreOfOneOpening, IsNewDesk, IsSettledLane}
+use Rattle.cb_lanes.specs.Desks.{identity, capacity_to, posted_to, taken_from, capacity_in, posted_in, taken_in, AreOfOneOpening, IsNewDesk, IsSettledLane}
 use Rattle.cb_rank.specs.Agreement.{IsSlotOf, AreLettersOf}
 use Rattle.cb_rank.specs.Halves.{Course, RunsTo}
 use Rattle.cb_rank.specs.Ranks.{RankView, new_rank}
@@ -38,7 +38,7 @@ use Rattle.cb_rank.proofs.LostSlots.{whole_by}
 use Rattle.cb_rank.proofs.OwnActs.{quiet_act}
 use Rattle.cb_rank.proofs.RankAfterHalf.{few_halves}
 use Rattle.cb_ranks.specs.Runs.{course_of, fresh, IsNewRun}
-use Rattle.cb_ranks.specs.Crews.{Member, desks_of, stores_of, counts_of, AreNew, Ran, IsCrew}
+use Rattle.cb_ranks.specs.Crews.{Member, desks_of, stores_of, counts_of, AreNew, HaveCapacity, Ran, IsCrew}
 use Rattle.cb_ranks.specs.Finished.{FinishedView, IsFinished, AllRun, FinishesPlan}
 use Rattle.cb_ranks.proofs.Courses.{same_course}
 use Rattle.cb_ranks.proofs.ClosingLaw.{AreFinished, closes}
@@ -90,6 +90,12 @@ place s (x ∷ xs) (y ∷ ys) zero h l = record { old = x; new = y; old_is = ref
 place s (x ∷ xs) (y ∷ ys) (suc k) h l =
     let it = place s xs ys k h.1 (omega arith) in
     record { old = it.old; new = it.new; old_is = it.old_is; new_is = it.new_is; ran = it.ran }
+
+-- the element at a place of a list
+known : {X : Type 0} (xs : List X) (k : ℕ) → k < length xs → (x : X) × (slice_get xs k ≡ Some x)
+known [] k l = absurd (omega arith)
+known (x ∷ xs) zero l = (x, refl)
+known (x ∷ xs) (suc k) l = known xs k (omega arith)
 
 slice_get_of : {X Y : Type 0} (f : X → Y) (xs : List X) (k : ℕ) (x : X) → slice_get xs k ≡ Some x → slice_get (map f xs) k ≡ Some (f x)
 slice_get_of f xs k x e = slice_get-map f xs k ∙ ap (option_map f) e
@@ -145,16 +151,21 @@ same_letters refs f t n [] (x ∷ xs) h = absurd h
 same_letters refs f t n (w ∷ ws) [] h = absurd h
 same_letters refs f t n (w ∷ ws) (x ∷ xs) h = ap suc (same_letters refs f t (n + 1) ws xs h.3)
 
--- what each rank of a crew did by itself
+-- what a rank of a crew did by itself
+pub run_at : (s : Arithmetic) (p : CheckedView) (first : List (List (Slot Sparse))) (crew : List Member) (r : ℕ) (old new : Member) → IsCrew p first crew → slice_get crew r ≡ Some old → r < length crew → Ran s old new → RunsTo s r (project p.starts p.acts r) (fresh (get_or first r [])) (course_of new.0 new.1)
+run_at s p first crew r old new is at l ran =
+    let here : get_or crew r old ≡ old = get_or_from_slice_get crew r old old at in
+    let rank : old.0 ≡ new_rank p r (get_or first r []) = ap (λ (m : Member). m.0) (sym here) ∙ is.ranks r old l in
+    let begins : IsNewRun (new_rank p r (get_or first r [])) old.1 = subst (λ x. IsNewRun x old.1) rank (subst (λ (m : Member). IsNewRun m.0 m.1) here (is.new r old l)) in
+    let did : RunsTo s r (project p.starts p.acts r) (course_of (new_rank p r (get_or first r [])) old.1) (course_of new.0 new.1) = subst (λ x. RunsTo s x.me x.program (course_of x old.1) (course_of new.0 new.1)) rank ran.halves in
+    subst (λ z. RunsTo s r (project p.starts p.acts r) z (course_of new.0 new.1)) (new_course p r (get_or first r []) old.1 begins) did
+
+-- what each rank of a crew that ran did by itself
 run_of : (s : Arithmetic) (p : CheckedView) (first : List (List (Slot Sparse))) (crew done : List Member) (r : ℕ) → IsCrew p first crew → AllZip (Ran s) crew done → r < length crew → RunsTo s r (project p.starts p.acts r) (fresh (get_or first r [])) (courses_in done r)
 run_of s p first crew done r is ran l =
     let it = place s crew done r ran l in
-    let here : get_or crew r it.old ≡ it.old = get_or_from_slice_get crew r it.old it.old it.old_is in
-    let rank : it.old.0 ≡ new_rank p r (get_or first r []) = ap (λ (m : Member). m.0) (sym here) ∙ is.ranks r it.old l in
-    let new : IsNewRun (new_rank p r (get_or first r [])) it.old.1 = subst (λ x. IsNewRun x it.old.1) rank (subst (λ (m : Member). IsNewRun m.0 m.1) here (is.new r it.old l)) in
-    let did : RunsTo s r (project p.starts p.acts r) (course_of (new_rank p r (get_or first r [])) it.old.1) (course_of it.new.0 it.new.1) = subst (λ x. RunsTo s x.me x.program (course_of x it.old.1) (course_of it.new.0 it.new.1)) rank it.ran.halves in
     subst (λ z. RunsTo s r (project p.starts p.acts r) (fresh (get_or first r [])) z) (sym (course_at done r it.new it.new_is))
-    (subst (λ z. RunsTo s r (project p.starts p.acts r) z (course_of it.new.0 it.new.1)) (new_course p r (get_or first r []) it.old.1 new) did)
+    (run_at s p first crew r it.old it.new is it.old_is l it.ran)
 
 -- each rank left a store of 256 slots
 tables_of : (s : Arithmetic) (p : CheckedView) (first : List (List (Slot Sparse))) (crew done : List Member) → IsCrew p first crew → AllZip (Ran s) crew done → IsTable p.ranks SLOTS (stores_of done)
@@ -166,7 +177,7 @@ tables_of s p first crew done is ran = record {
 }
 
 abbrev pub finished_by : List Member → FinishedView
-finished_by done = record { stores = stores_of done; refusals = counts_of done; posted = posted_in (desks_of done); taken = taken_in (desks_of done) }
+finished_by done = record { stores = stores_of done; refusals = counts_of done; posted = posted_in (desks_of done); taken = taken_in (desks_of done); capacity = capacity_in (desks_of done) }
 
 -- the closing law of crews, if each rank ran its program over its desk, and what was taken on each lane is a prefix of what was
 -- posted there
@@ -248,6 +259,25 @@ is_crew c p first crew desks count same opening new ranks =
           };
       opening = subst (λ ds. AreOfOneOpening (map identity ds)) (sym same) opening;
     }
+
+-- the lanes of new desks have room for as many letters as was asked
+pub have_capacity : (c n : ℕ) (crew : List Member) (desks : List (Desk Sparse)) → length desks ≡ n → desks_of crew ≡ desks
+    → ((k : ℕ) (a : Desk Sparse) → k < n → IsNewDesk c n k (get_or desks k a)) → HaveCapacity c crew
+have_capacity c n crew desks count same new from to l m ne =
+    let size : length crew ≡ n = sym (length-map crew (λ (x : Member). x.1)) ∙ ap length same ∙ count in
+    let it = known crew from (omega arith) in
+    let desk : get_or desks from it.0.1 ≡ it.0.1 = ap (λ (ds : List (Desk Sparse)). get_or ds from it.0.1) (sym same) ∙ get_or_of (λ (x : Member). x.1) crew from it.0 it.0.1 it.1 in
+    let held : capacity_to it.0.1 to ≡ c = subst (λ (z : Desk Sparse). capacity_to z to ≡ c) desk ((new from it.0.1 (omega arith)).room to (omega arith) (λ e. ne (sym e))).1 in
+    rw (slice_get_of (λ (x : Member). x.1) crew from it.0 it.1) held
+
+-- a run keeps how many letters the lanes hold
+pub still_capacity : (s : Arithmetic) (c : ℕ) (crew done : List Member) → AllZip (Ran s) crew done → HaveCapacity c crew → HaveCapacity c done
+still_capacity s c crew done ran was from to l m ne =
+    let size = length_all_zip (Ran s) crew done ran in
+    let it = place s crew done from ran (omega arith) in
+    let before : capacity_in (desks_of crew) from to ≡ c = was from to (omega arith) (omega arith) ne in
+    let old : capacity_to it.old.1 to ≡ c = rw (slice_get_of (λ (x : Member). x.1) crew from it.old it.old_is) at before in
+    rw (slice_get_of (λ (x : Member). x.1) done from it.new it.new_is) (it.ran.capacities to ∙ old)
 
 -- each member of a crew is a new rank with a new desk
 pub are_new : (crew : List Member) → ((k : ℕ) (d : Member) → k < length crew → IsNewRun (get_or crew k d).0 (get_or crew k d).1) → AreNew crew

@@ -17,7 +17,7 @@ use Rattle.cb_letters.specs.Posted.{ends_closed}
 use Rattle.cb_letters.specs.Standing.{next_letter}
 use Rattle.cb_letters.proofs.Marks.{ends_closed-append}
 use Rattle.cb_lanes.specs.declared.desk.Desk.{Desk}
-use Rattle.cb_lanes.specs.Desks.{identity, posted_to, taken_from, is_stranger, standing, Posts, Takes}
+use Rattle.cb_lanes.specs.Desks.{identity, capacity_to, posted_to, taken_from, is_stranger, standing, Posts, Takes}
 use Rattle.cb_rings.specs.Ends.{outgoing_ring}
 use Rattle.cb_rings.specs.Numbers.{AreNumbered}
 use Rattle.cb_plan.specs.declared.acts.Half.{Half}
@@ -52,6 +52,13 @@ with_one old new to x grown same k =
     (λ t. let at : k ≡ to = grind (arith, nat_tests) in rw t (subst (λ n. new n ≡ old n ++ x ∷ []) (sym at) grown))
     (λ f. let ne : k ≢ to = grind (arith, nat_tests) in rw f (same k ne))
 
+-- the lanes of a desk that posted to a rank hold as many letters as before
+holds_as_much : (d e : Desk Sparse) (to : ℕ) → capacity_to e to ≡ capacity_to d to → ((k : ℕ) → k ≢ to → capacity_to e k ≡ capacity_to d k) → (k : ℕ) → capacity_to e k ≡ capacity_to d k
+holds_as_much d e to there elsewhere k =
+    split (to == k)
+    (λ t. let at : to ≡ k = grind (arith, nat_tests) in subst (λ n. capacity_to e n ≡ capacity_to d n) at there)
+    (λ f. let ne : k ≢ to = grind (arith, nat_tests) in elsewhere k ne)
+
 -- a desk on which nothing was taken stays under way
 pub still_under_way : (x y : RankView) (d e : Desk Sparse) (slots : List (Slot Sparse)) (refusals : ℕ) → IsUnderWay x d → y ≡ onward x slots refusals → identity e ≡ identity d → ((k : ℕ) → taken_from e k ≡ taken_from d k) → ((k : ℕ) → lanes_then x k ≡ lanes_to x k) → IsUnderWay y e
 still_under_way x y d e slots refusals was onto same kept lanes = rw onto (record {
@@ -83,6 +90,7 @@ does_post s x y d e to tag slot t body is was next hands posts =
       );
       one_more = onward_of x y x.slots y.refusals h.2;
       rings = posts.0;
+      capacities = holds_as_much d e to posts.1.1 (λ k ne. (posts.1.2 k ne).2);
       under_way = still_under_way x y d e x.slots y.refusals was h.2 posts.0 posts.2 (lanes_post x to tag slot is next);
     }
 
@@ -99,6 +107,7 @@ does_shut s x y d e to is was next onto posts =
           (with_one (posted_to d) (posted_to e) to letter (posts.1.0 ∙ ap (λ z. posted_to d to ++ z ∷ []) same) (λ k ne. (posts.1.2 k ne).0)) posts.2;
       one_more = onward_of x y x.slots x.refusals onto;
       rings = posts.0;
+      capacities = holds_as_much d e to posts.1.1 (λ k ne. (posts.1.2 k ne).2);
       under_way = still_under_way x y d e x.slots x.refusals was onto posts.0 posts.2 (lanes_shut x to is next);
     }
 
@@ -113,6 +122,7 @@ does_work s x y d op is was next works =
       does = (w.0, w.1, same_course (course_of y d) (record { slots = set; refusals = y.refusals; posted = posted_to d; taken = taken_from d }) (ap (λ (z : RankView). z.slots) w.2) refl (λ k. refl) (λ k. refl));
       one_more = onward_of x y set y.refusals w.2;
       rings = refl;
+      capacities = λ k. refl;
       under_way = still_under_way x y d d set y.refusals was w.2 refl (λ k. refl) (lanes_work x op is next);
     }
 
@@ -171,6 +181,7 @@ does_take s x y d e from tag into shape letter is was next waits onto takes =
       );
       one_more = onward_of x y set x.refusals onto_set;
       rings = takes.0;
+      capacities = λ k. (takes.1 k).2;
       under_way = rw onto_set (record {
         me = same_me d e takes.0 ∙ was.me;
         ranks = same_ranks d e takes.0 ∙ was.ranks;
@@ -223,6 +234,7 @@ does_end s x y d e from is was next onto takes =
       );
       one_more = onward_of x y x.slots x.refusals onto_same;
       rings = takes.0;
+      capacities = λ k. (takes.1 k).2;
       under_way = rw onto_same (record {
         me = same_me d e takes.0 ∙ was.me;
         ranks = same_ranks d e takes.0 ∙ was.ranks;

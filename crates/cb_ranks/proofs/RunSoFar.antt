@@ -6,7 +6,7 @@ use Rattle.cb_semirings.specs.Arithmetic.{Arithmetic}
 use Rattle.cb_matrix.specs.Sparse.{Sparse}
 use Rattle.cb_letters.specs.Posted.{ends_closed}
 use Rattle.cb_lanes.specs.declared.desk.Desk.{Desk}
-use Rattle.cb_lanes.specs.Desks.{identity}
+use Rattle.cb_lanes.specs.Desks.{identity, capacity_to}
 use Rattle.cb_rings.specs.Numbers.{AreNumbered}
 use Rattle.cb_plan.specs.declared.acts.Half.{Half}
 use Rattle.cb_plan.specs.Checks.{none_shut, lanes_after}
@@ -24,6 +24,7 @@ pub record HasRun (s : Arithmetic) (x : RankView) (d : Desk Sparse) (y : RankVie
   pub same : y ≡ record x { done = y.done; slots = y.slots; refusals = y.refusals }
   pub halves : RunsTo s x.me (take y.done x.program) (course_of x d) (course_of y e)
   pub rings : identity e ≡ identity d
+  pub capacities : (k : ℕ) → capacity_to e k ≡ capacity_to d k
   pub under_way : IsUnderWay y e
 
 -- one more half
@@ -37,6 +38,7 @@ begins s x d new = record {
   same = refl;
   halves = rw new.undone refl;
   rings = refl;
+  capacities = λ k. refl;
   under_way = record {
     me = new.desk.me;
     ranks = new.desk.ranks;
@@ -58,6 +60,7 @@ goes_on s x d y e z f run next =
       same = next.one_more ∙ ap (λ v. onward v z.slots z.refusals) run.same ∙ ap (λ n. record x { done = n; slots = z.slots; refusals = z.refusals }) (sym done);
       halves = subst (λ hs. RunsTo s x.me hs (course_of x d) (course_of z f)) (sym more) (runs_to-append s x.me (take y.done x.program) next.half (course_of x d) (course_of y e) (course_of z f) run.halves does);
       rings = next.rings ∙ run.rings;
+      capacities = λ k. next.capacities k ∙ run.capacities k;
       under_way = next.under_way;
     }
 
@@ -79,5 +82,6 @@ ends s x d y e run is none =
       halves = subst (λ hs. RunsTo s x.me hs (course_of x d) (course_of y e)) (take_all y.done x.program past) run.halves;
       numbered = run.under_way.numbered;
       rings = run.rings;
+      capacities = run.capacities;
       rank = is;
     }

@@ -1,11 +1,11 @@
 -- A crew: all ranks of a plan, each with its desk, before they run and after.
-use Rattle.std.specs.Prelude.{◌≡◌, ℕ, ◌<◌, List, [], ◌∷◌, length, map, get_or}
+use Rattle.std.specs.Prelude.{◌≡◌, ◌≢◌, ℕ, ◌<◌, List, [], ◌∷◌, length, map, get_or}
 use Rattle.cb_semirings.specs.Arithmetic.{Arithmetic}
 use Rattle.cb_matrix.specs.Sparse.{Sparse}
 use Rattle.cb_plan.specs.declared.stores.Slot.{Slot}
 use Rattle.cb_plan.specs.Plans.{CheckedView}
 use Rattle.cb_lanes.specs.declared.desk.Desk.{Desk}
-use Rattle.cb_lanes.specs.Desks.{identity, AreOfOneOpening}
+use Rattle.cb_lanes.specs.Desks.{identity, capacity_in, AreOfOneOpening}
 use Rattle.cb_rank.specs.Ranks.{RankView, new_rank}
 use Rattle.cb_ranks.specs.Runs.{IsNewRun, Runs}
 
@@ -27,6 +27,10 @@ counts_of crew = map (λ m. m.0.refusals) crew
 abbrev pub AreNew : List Member → Type 0
 AreNew [] = Unit {0}
 AreNew (m ∷ ms) = IsNewRun m.0 m.1 × AreNew ms
+
+-- each lane between two of them holds this many letters
+abbrev pub HaveCapacity : ℕ → List Member → Type 0
+HaveCapacity c crew = (from to : ℕ) → from < length crew → to < length crew → from ≢ to → capacity_in (desks_of crew) from to ≡ c
 
 -- the second member is what a run of the first leaves
 abbrev pub Ran : Arithmetic → Member → Member → Type 0

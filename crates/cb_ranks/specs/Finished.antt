@@ -14,13 +14,14 @@ use Rattle.cb_rank.specs.Halves.{Course, RunsTo}
 use Rattle.cb_rank.specs.Leavings.{HoldsMeaning}
 use Rattle.cb_ranks.specs.Runs.{fresh}
 
--- the store of each rank, how often each was refused memory, and the letters that were posted and taken on the lane from each
--- rank to each
+-- the store of each rank, how often each was refused memory, the letters that were posted and taken on the lane from each rank
+-- to each, and how many letters it holds at once
 pub record FinishedView : Type 0 where
   pub stores : List (List (Slot Sparse))
   pub refusals : List ℕ
   pub posted : ℕ → ℕ → List (Letter Sparse)
   pub taken : ℕ → ℕ → List (Letter Sparse)
+  pub capacity : ℕ → ℕ → ℕ
 
 -- how often this rank was refused memory
 abbrev pub refused_at : FinishedView → ℕ → ℕ
@@ -39,6 +40,10 @@ pub record IsFinished (f : FinishedView) : Type 0 where
 abbrev pub IsLaneOf : FinishedView → ℕ → ℕ → Type 0
 IsLaneOf f from to = (from < length f.stores) × (to < length f.stores) × (from ≢ to)
 
+-- each lane between two of this many ranks holds this many letters at once
+abbrev pub LanesHold : ℕ → ℕ → FinishedView → Type 0
+LanesHold ranks c f = (from to : ℕ) → from < ranks → to < ranks → from ≢ to → f.capacity from to ≡ c
+
 -- on the lane from one rank to another all letters of the plan were posted, the close mark included, and all were taken
 pub record HasLetters (s : Arithmetic) (p : CheckedView) (first : List (List (Slot Sparse))) (f : FinishedView) (from to : ℕ) : Type 0 where
   pub posted : AreLettersOf (refused_at f) from to 0 (letters (matrices s) p.acts (state_of first) from to) (f.posted from to)
@@ -48,6 +53,10 @@ pub record HasLetters (s : Arithmetic) (p : CheckedView) (first : List (List (Sl
 -- how far a rank has come: what it left, and the letters that it posted and took
 abbrev pub course_in : FinishedView → ℕ → Course
 course_in f r = record { slots = get_or f.stores r []; refusals = get_or f.refusals r 0; posted = f.posted r; taken = λ k. f.taken k r }
+
+-- this rank of a plan did its whole program by itself, half by half, from its part of the first stores
+abbrev pub DidProgram : Arithmetic → CheckedView → List (List (Slot Sparse)) → ℕ → Type 0
+DidProgram s p first r = (end : Course) × RunsTo s r (project p.starts p.acts r) (fresh (get_or first r [])) end
 
 -- each rank of a plan did its own program, half by half, from its part of the first stores
 abbrev pub AllRun : Arithmetic → CheckedView → List (List (Slot Sparse)) → FinishedView → Type 0

@@ -4,7 +4,7 @@ use Rattle.cb_semirings.specs.Arithmetic.{Arithmetic}
 use Rattle.cb_matrix.specs.Sparse.{Sparse}
 use Rattle.cb_plan.specs.declared.stores.Slot.{Slot}
 use Rattle.cb_lanes.specs.declared.desk.Desk.{Desk}
-use Rattle.cb_lanes.specs.Desks.{identity, posted_to, taken_from, IsNewDesk}
+use Rattle.cb_lanes.specs.Desks.{identity, capacity_to, posted_to, taken_from, IsNewDesk}
 use Rattle.cb_rings.specs.Numbers.{AreNumbered}
 use Rattle.cb_rank.specs.Halves.{Course, RunsTo}
 use Rattle.cb_rank.specs.Ranks.{RankView, IsRank}
@@ -38,4 +38,6 @@ pub record Runs (s : Arithmetic) (x : RankView) (d : Desk Sparse) (y : RankView)
   pub numbered : (k : ℕ) → AreNumbered (taken_from e k)
   -- it is the desk of the same rank, with ends of the same rings
   pub rings : identity e ≡ identity d
+  -- its lanes hold as many letters as they did
+  pub capacities : (k : ℕ) → capacity_to e k ≡ capacity_to d k
   pub rank : IsRank y

@@ -8,7 +8,7 @@ use Rattle.cb_plan.specs.declared.acts.Half.{Half}
 use Rattle.cb_plan.specs.Checks.{lanes_after, none_shut}
 use Rattle.cb_plan.specs.PlanLetters.{before}
 use Rattle.cb_lanes.specs.declared.desk.Desk.{Desk}
-use Rattle.cb_lanes.specs.Desks.{identity, posted_to, taken_from}
+use Rattle.cb_lanes.specs.Desks.{identity, capacity_to, posted_to, taken_from}
 use Rattle.cb_rings.specs.Numbers.{AreNumbered}
 use Rattle.cb_rank.specs.declared.wants.Arrival.{Arrival}
 use Rattle.cb_rank.specs.declared.wants.Arrival.TheVariants as arrival_is
@@ -35,6 +35,7 @@ pub record DoesNext (s : Arithmetic) (x : RankView) (d : Desk Sparse) (y : RankV
   pub does : DoesHalf s x.me half (course_of x d) (course_of y e)
   pub one_more : y ≡ onward x y.slots y.refusals
   pub rings : identity e ≡ identity d
+  pub capacities : (k : ℕ) → capacity_to e k ≡ capacity_to d k
   pub under_way : IsUnderWay y e
 
 -- a recorder was told of the event of the rank's next half, if it has one, and of nothing else

@@ -1,7 +1,7 @@
 //! A crew: all ranks of a plan, each with its desk.
 ghost use Rattle.std.specs.Prelude.{◌≡◌, ◌≤◌, length, IfOk};
 ghost use Rattle.cb_plan.specs.Stores.{Fits};
-ghost use Rattle.cb_ranks.specs.Crews.{AreNew, AreNewRanks, IsCrew, desks_of};
+ghost use Rattle.cb_ranks.specs.Crews.{AreNew, AreNewRanks, HaveCapacity, IsCrew, desks_of};
 
 use cb_lanes::{Desk, open};
 use cb_letters::Capacity;
@@ -26,6 +26,7 @@ pub fn assemble<S: Semiring>(
     requires { Fits plan.now.ranks plan.now.starts stores.items }
     ensures crew { IfOk result (λ crew. IsCrew plan.now stores.items crew.items) }
     ensures new { IfOk result (λ crew. AreNew crew.items) }
+    ensures lanes { IfOk result (λ crew. HaveCapacity capacity crew.items) }
 {
     let desks = open(alloc, plan.ranks(), capacity)?;
     pair_up(alloc, plan, stores, desks)

@@ -19,14 +19,14 @@ module _ {T : Type 0} (tells : T → TraceEvent → T → Type 0) where
     Tell all rest done = (ys : List T) → HaveTold tells (map f rest) (map g rest) ys → HaveTold tells (map f all) (map g all) (done ++ ys)
 
     -- one more recorder was returned, if no rank was lost
-    pub told_more : (lost : Option ℕ) (all : List H) (done done' : List T) (rest rest' : List H) (x : H) (y : T)
+    pub told_more : {L : Type 0} (lost : Option L) (all : List H) (done done' : List T) (rest rest' : List H) (x : H) (y : T)
         → rest ≡ x ∷ rest' → done' ≡ done ++ y ∷ [] → FoldsTo tells (g x) (program_events (f x).0.me (f x).0.program) y
         → IfNone lost (Tell all rest done) → IfNone lost (Tell all rest' done')
     told_more (Some n) all done done' rest rest' x y e d r h = tt
     told_more None all done done' rest rest' x y e d r h = λ ys z. rw (d, append_assoc) (h (y ∷ ys) (rw e (r, z)))
 
     -- all recorders were returned
-    pub told_all : (lost : Option ℕ) (all : List H) (done : List T) (rest : List H)
+    pub told_all : {L : Type 0} (lost : Option L) (all : List H) (done : List T) (rest : List H)
         → lost ≡ None → length rest ≡ 0 → IfNone lost (Tell all rest done) → HaveTold tells (map f all) (map g all) done
     told_all (Some n) all done rest is none h = cc
     told_all None all done [] is none h = rw append-nil at (h [] tt)

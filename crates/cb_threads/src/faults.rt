@@ -1,7 +1,9 @@
 //! Why a run in threads fails.
 ghost use Rattle.std.specs.Prelude.{◌≡◌};
+ghost use Rattle.cb_threads.specs.Faults.{told_as};
 ghost use Rattle.cb_threads.specs.declared.faults.RunFault.TheVariants.{Memory};
 
+use crate::rank_threads::{LeftAlone, NoThread};
 use std::alloc::AllocError;
 use thiserror::Error;
 
@@ -28,5 +30,23 @@ impl From<AllocError> for RunFault {
 
     fn from(_error: AllocError) -> RunFault {
         RunFault::Memory
+    }
+}
+
+/// Why not all ranks of a crew ran. A crew takes no memory, so lack of it isn't among the reasons.
+#[derive(Drop)]
+pub(crate) enum CrewFault {
+    NotStarted(NoThread),
+    Gone(LeftAlone),
+}
+
+impl From<CrewFault> for RunFault {
+    ghost from_gives = { λ crew_fault fault. fault ≡ told_as crew_fault };
+
+    fn from(fault: CrewFault) -> RunFault {
+        match fault {
+            CrewFault::NotStarted(none) => RunFault::NotStarted(none.rank()),
+            CrewFault::Gone(alone) => RunFault::Gone(alone.rank()),
+        }
     }
 }

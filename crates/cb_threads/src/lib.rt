@@ -15,6 +15,7 @@
 
 mod faults;
 mod promises;
+mod rank_threads;
 mod rooms;
 mod threads;
 mod traced;

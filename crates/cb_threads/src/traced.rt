@@ -1,9 +1,9 @@
 //! A run in threads that keeps a trace.
 ghost use Rattle.std.specs.Prelude.{map, IfOk, IfErr};
 ghost use Rattle.cb_plan.specs.Stores.{Fits};
-ghost use Rattle.cb_ranks.specs.Finished.{FinishesPlan};
+ghost use Rattle.cb_ranks.specs.Finished.{FinishesPlan, LanesHold};
 ghost use Rattle.cb_ranks.specs.Views.{finished_view};
-ghost use Rattle.cb_threads.specs.Faults.{IsTracedFaultOf};
+ghost use Rattle.cb_threads.specs.Faults.{IsTracedFaultOf, NamesLeast};
 ghost use Rattle.cb_threads.specs.Traced.{AreOfProgram, HasProgram};
 
 use crate::faults::RunFault;
@@ -35,8 +35,10 @@ pub fn run_traced<S: Semiring + Send + Sync, R: Threads + Wait + Sync, G: Gate<S
 ) -> Result<(Finished<S>, Trace), RunFault>
     requires { Fits plan.now.ranks plan.now.starts stores.items }
     ensures meaning { IfOk result (λ done. FinishesPlan S.arithmetic plan.now stores.items (finished_view done.0)) }
+    ensures lanes { IfOk result (λ done. LanesHold plan.now.ranks capacity (finished_view done.0)) }
     ensures trace { IfOk result (λ done. HasProgram plan.now done.1) }
     ensures fault { IfErr result (IsTracedFaultOf plan.now.ranks) }
+    ensures least { IfErr result (NamesLeast S.arithmetic plan.now stores.items) }
 {
     let trace = SharedTrace::new(Trace::with_room(alloc, plan.ranks(), events_of(plan))?);
     let (finished, lists) = run_logged(rt, alloc, plan, stores, capacity, gate, &trace)?;
@@ -59,12 +61,14 @@ fn run_logged<S: Semiring + Send + Sync, R: Threads + Wait + Sync, G: Gate<S>>(
 ) -> Result<(Finished<S>, Vec<Vec<TraceEvent>>), RunFault>
     requires { Fits plan.now.ranks plan.now.starts stores.items }
     ensures meaning { IfOk result (λ done. FinishesPlan S.arithmetic plan.now stores.items (finished_view done.0)) }
+    ensures lanes { IfOk result (λ done. LanesHold plan.now.ranks capacity (finished_view done.0)) }
     ensures lists { IfOk result (λ done. AreOfProgram plan.now (map (λ list. list.items) done.1.items)) }
     ensures fault { IfErr result (IsTracedFaultOf plan.now.ranks) }
+    ensures least { IfErr result (NamesLeast S.arithmetic plan.now stores.items) }
 {
-    let logs = Log::open(alloc, plan, trace, gate)?;
+    let mut logs = Log::open(alloc, plan, trace, gate)?;
     let room = Vec::with_capacity(alloc, logs.len())?;
-    let (finished, logs) = run_told(rt, alloc, plan, stores, capacity, gate, logs)?;
+    let finished = run_told(rt, alloc, plan, stores, capacity, gate, &mut logs)?;
     let Some(lists) = lists_of(logs, room) else {
         return Err(RunFault::TraceTorn);
     };

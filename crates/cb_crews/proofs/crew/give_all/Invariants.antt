@@ -9,5 +9,6 @@ invariant-loop-rank g l =
       all : map given l.busy.items ++ rest ≡ l.fn.crew.items;
       same : length rest ≡ length l.rank-iterator.b.rest.items;
       new : AreNew rest;
+      few : vec_len l.busy + length rest ≡ vec_len l.fn.crew;
       room : vec_len l.busy + length rest ≤ vec_capacity l.busy;
     }

@@ -13,33 +13,33 @@ loop-rank-preserved g c =
     let next : c.loop-rank.rank-iterator.a.rest.items ≡ member ∷ c.next.new.self.a.rest.items = search rules in
     let other : c.loop-rank.rank-iterator.b.rest.items ≡ c.in-Some.recorder ∷ c.next.new.self.b.rest.items = search rules in
     record {
-      all = images_go_on (started {S = g.row.S.Denot} {T = g.row.T.Denot}) c.loop-rank.threads.items c.push_reserved.new.self.items c.in-Some-start_one.thread member c.next.new.self.a.rest.items c.loop-rank.rank-iterator.a.rest.items c.args.crew.items c.push_reserved.ensures.items c.in-Some-start_one.ensures.0 next c.loop-rank.invariant.all;
-      recorders = images_go_on (started_recorder {S = g.row.S.Denot} {T = g.row.T.Denot}) c.loop-rank.threads.items c.push_reserved.new.self.items c.in-Some-start_one.thread c.in-Some.recorder c.next.new.self.b.rest.items c.loop-rank.rank-iterator.b.rest.items c.args.recorders.items c.push_reserved.ensures.items c.in-Some-start_one.ensures.1 other c.loop-rank.invariant.recorders;
+      all = images_go_on (started {S = g.row.S.Denot} {T = g.row.T.Denot}) c.loop-rank.threads.items c.push_reserved.new.self.items c.in-Ok.thread member c.next.new.self.a.rest.items c.loop-rank.rank-iterator.a.rest.items c.args.crew.items c.push_reserved.ensures.items c.in-Ok.ensures.started.0 next c.loop-rank.invariant.all;
+      recorders = images_go_on (started_recorder {S = g.row.S.Denot} {T = g.row.T.Denot}) c.loop-rank.threads.items c.push_reserved.new.self.items c.in-Ok.thread c.in-Some.recorder c.next.new.self.b.rest.items c.loop-rank.rank-iterator.b.rest.items c.args.recorders.items c.push_reserved.ensures.items c.in-Ok.ensures.started.1 other c.loop-rank.invariant.recorders;
       same = same_left member c.in-Some.recorder c.loop-rank.rank-iterator.a.rest.items c.next.new.self.a.rest.items c.loop-rank.rank-iterator.b.rest.items c.next.new.self.b.rest.items next other c.loop-rank.invariant.same;
       new = (subst AreNew next c.loop-rank.invariant.new).1;
       few = count_left (vec_len c.loop-rank.threads) (vec_len c.push_reserved.new.self) (vec_len c.args.crew) member c.loop-rank.rank-iterator.a.rest.items c.next.new.self.a.rest.items c.push_reserved.ensures.len next c.loop-rank.invariant.few;
       room = room_stays (vec_len c.args.crew) (vec_capacity c.loop-rank.threads) (vec_capacity c.push_reserved.new.self) c.push_reserved.ensures.capacity c.loop-rank.invariant.room;
     }
 
-pub returns-in_default-clause-missing : goal.returns-in_default-clause-missing
-returns-in_default-clause-missing g c =
+pub returns-in-Err-clause-missing : goal.returns-in-Err-clause-missing
+returns-in-Err-clause-missing g c =
     let before = map (started {S = g.row.S.Denot} {T = g.row.T.Denot}) c.loop-rank.threads.items in
     let rest = c.next.new.self.a.rest.items in
     let next : c.loop-rank.rank-iterator.a.rest.items ≡ (c.in-Some.rank, c.in-Some.desk) ∷ rest = search rules in
     let all : before ++ (c.in-Some.rank, c.in-Some.desk) ∷ rest ≡ c.args.crew.items = ap (λ ms. before ++ ms) (sym next) ∙ c.loop-rank.invariant.all in
-    rw c.rank-number.ensures (subst (λ ms. IsOneOf ms c.in-Some.desk.me) all (member_is_one before (c.in-Some.rank, c.in-Some.desk) rest))
+    rw c.in-Err.ensures.none (subst (λ ms. IsOneOf ms c.in-Some.desk.me) all (member_is_one before (c.in-Some.rank, c.in-Some.desk) rest))
 
-pub returns-in_default-clause-next : goal.returns-in_default-clause-next
-returns-in_default-clause-next g c =
+pub returns-in-Err-clause-next : goal.returns-in-Err-clause-next
+returns-in-Err-clause-next g c =
     let before = map (started {S = g.row.S.Denot} {T = g.row.T.Denot}) c.loop-rank.threads.items in
     let rest = c.next.new.self.a.rest.items in
     let next : c.loop-rank.rank-iterator.a.rest.items ≡ (c.in-Some.rank, c.in-Some.desk) ∷ rest = search rules in
     let all : before ++ (c.in-Some.rank, c.in-Some.desk) ∷ rest ≡ c.args.crew.items = ap (λ ms. before ++ ms) (sym next) ∙ c.loop-rank.invariant.all in
     let count = length-map c.loop-rank.threads.items (started {S = g.row.S.Denot} {T = g.row.T.Denot}) in
-    rw c.rank-number.ensures (member_is_next before (c.in-Some.rank, c.in-Some.desk) rest c.args.crew.items (length c.loop-rank.threads.items) count all)
+    rw c.in-Err.ensures.none (member_is_next before (c.in-Some.rank, c.in-Some.desk) rest c.args.crew.items (length c.loop-rank.threads.items) count all)
 
-pub returns-in_default-clause-first : goal.returns-in_default-clause-first
-returns-in_default-clause-first g c = (c.loop-rank.rank-iterator.a.rest.items, c.loop-rank.invariant.all)
+pub returns-in-Err-clause-first : goal.returns-in-Err-clause-first
+returns-in-Err-clause-first g c = (c.loop-rank.rank-iterator.a.rest.items, c.loop-rank.invariant.all)
 
 pub returns-clause-first : goal.returns-clause-first
 returns-clause-first g c = (c.loop-rank.rank-iterator.a.rest.items, c.loop-rank.invariant.all)

@@ -10,4 +10,4 @@ invariant_of-result g c =
     record { ranks = it; fits = rw c.take_from-stores.ensures.refusals c.requires.few }
 
 pub returns : goal.returns
-returns g c = left_by c.args.crew.items c.take_from-stores.result.stores.items c.take_from-stores.result.refusals.items c.take_from-stores.result.desks.items c.settle-lanes.result c.take_from-stores.ensures.stores c.take_from-stores.ensures.refusals c.take_from-stores.ensures.desks c.settle-lanes.ensures.posted c.settle-lanes.ensures.taken c.settle-lanes.ensures.settled
+returns g c = left_by c.args.crew.items c.take_from-stores.result.stores.items c.take_from-stores.result.refusals.items c.take_from-stores.result.desks.items c.settle-lanes.result c.take_from-stores.ensures.stores c.take_from-stores.ensures.refusals c.take_from-stores.ensures.desks c.settle-lanes.ensures.posted c.settle-lanes.ensures.taken c.settle-lanes.ensures.capacities c.settle-lanes.ensures.settled
