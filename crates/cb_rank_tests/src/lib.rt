@@ -7,6 +7,8 @@
 #![tactic(auto)]
 
 #[cfg(test)]
+mod crews;
+#[cfg(test)]
 mod events;
 #[cfg(test)]
 mod examples;

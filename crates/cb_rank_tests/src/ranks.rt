@@ -1,16 +1,21 @@
 //! Two ranks, stepped in turns and on their own threads: what they leave, what their trace records, and what is returned if
 //! one of them is gone or memory is refused.
-ghost use Rattle.std.specs.Prelude.{◌<◌, IfSome};
+ghost use Rattle.std.specs.Prelude.{◌<◌, IfErr, IfOk, IfSome};
 ghost use Rattle.std.specs.Thread.{IsSync};
+ghost use Rattle.cb_semirings.specs.Tables.{plus_times};
 ghost use Rattle.cb_lanes.specs.Desks.{standing};
+ghost use Rattle.cb_plan.specs.Stores.{Fits};
 ghost use Rattle.cb_rank.specs.Ranks.{ArePortsOf};
 ghost use Rattle.cb_ranks.specs.Crews.{AreNew};
+ghost use Rattle.cb_ranks.specs.Finished.{LanesHold};
 ghost use Rattle.cb_ranks.specs.Runs.{IsNewRun};
+ghost use Rattle.cb_ranks.specs.Views.{finished_view};
+ghost use Rattle.cb_threads.specs.Faults.{NamesLeast};
 
 use crate::plans::{Held, contents_at, contents_of, doubling, rally};
 use cb_lanes::{Desk, Gone};
 use cb_letters::Capacity;
-use cb_plan::{SLOTS, SharedBlock};
+use cb_plan::{CheckedPlan, RankStore, SLOTS, SharedBlock};
 use cb_rank::{Moved, Rank, Supply};
 use cb_ranks::{Finished, Gate, Member, OpenGate, assemble, run_rank};
 use cb_semirings::{PlusTimes, Semiring};
@@ -180,7 +185,7 @@ fn a_rank_whose_peer_is_gone_is_given_up(rt: HostRuntime) {
 }
 
 /// The double that rank 0 holds in the end, and how often each of the two was refused memory.
-fn left_at_0(finished: Finished<PlusTimes>) -> Option<(Held, (u64, u64))> {
+pub(crate) fn left_at_0(finished: Finished<PlusTimes>) -> Option<(Held, (u64, u64))> {
     let (stores, refusals) = finished.into_parts();
     let [first, second] = refusals.as_slice() else {
         return None;
@@ -189,7 +194,7 @@ fn left_at_0(finished: Finished<PlusTimes>) -> Option<(Held, (u64, u64))> {
 }
 
 /// Whether the double is there and no memory was refused, or it is lost because of one refusal, at the rank that it names.
-fn is_whole_or_lost(finished: Finished<PlusTimes>) -> bool {
+pub(crate) fn is_whole_or_lost(finished: Finished<PlusTimes>) -> bool {
     match left_at_0(finished) {
         Some((Held::Number(6), refusals)) => refusals == (0, 0),
         Some((Held::LostAt(0), refusals)) => refusals == (1, 0),
@@ -223,6 +228,31 @@ impl<S: Semiring> Gate<S> for Counter {
     }
 }
 
+/// What the ranks of a plan leave on threads, with what is promised of the lanes, and of a fault.
+fn run_plan<R: Threads + Wait + Sync>(
+    rt: &R,
+    alloc: Global,
+    plan: &CheckedPlan,
+    stores: Vec<RankStore<PlusTimes>>,
+    capacity: Capacity,
+    gate: &Counter,
+) -> Result<Finished<PlusTimes>, RunFault>
+    requires { Fits plan.now.ranks plan.now.starts stores.items }
+    ensures lanes { IfOk result (λ finished. LanesHold plan.now.ranks capacity (finished_view finished)) }
+    ensures least { IfErr result (NamesLeast plus_times plan.now stores.items) }
+{
+    run_threads(rt, alloc, plan, stores, capacity, gate)
+}
+
+/// Whether a run failed since memory was refused: before any rank ran, or as a thread was started.
+fn is_refusal(fault: RunFault, counter: &Counter) -> bool {
+    match fault {
+        RunFault::Memory => !counter.has_any(),
+        RunFault::NotStarted(_) => true,
+        _ => false,
+    }
+}
+
 /// What two ranks on threads leave, with lanes for this many letters, if there is memory for their plan.
 fn ran<R: Threads + Wait + Sync>(
     rt: &R,
@@ -232,7 +262,7 @@ fn ran<R: Threads + Wait + Sync>(
 ) -> Option<Result<Finished<PlusTimes>, RunFault>> {
     let (plan, stores) = doubling(alloc, 3)?;
     let capacity = Capacity::nearest(letters);
-    Some(run_threads(rt, alloc, &plan, stores, capacity, gate))
+    Some(run_plan(rt, alloc, &plan, stores, capacity, gate))
 }
 
 #[test]
@@ -245,14 +275,14 @@ fn ranks_in_threads_leave_the_double(rt: HostRuntime) {
     assert!(rt; is_whole && counter.has_any());
 }
 
-/// Passes whichever single growth is refused (`rt try --test --fail-alloc N`, for each N in turn): either memory is refused
-/// before any rank runs, or every rank runs its whole program, and what is lost is counted.
+/// Passes whichever allocation is refused. Either memory is refused before any rank runs; or a thread isn't started, which
+/// takes memory too; or every rank runs its whole program, and what is lost is counted.
 #[test]
 fn refused_memory_is_answered_or_counted(rt: HostRuntime) {
     let counter = Counter::new();
     let is_right = match ran(&rt, rt.alloc(), 2, &counter) {
         Some(Ok(finished)) => is_whole_or_lost(finished),
-        Some(Err(fault)) => fault == RunFault::Memory && !counter.has_any(),
+        Some(Err(fault)) => is_refusal(fault, &counter),
         None => true,
     };
     assert!(rt; is_right);
@@ -302,18 +332,20 @@ fn ran_traced<R: Threads + Wait + Sync>(
     rt: &R,
     alloc: Global,
     letters: usize,
+    gate: &Counter,
 ) -> Option<Result<(Finished<PlusTimes>, Trace), RunFault>> {
     let (plan, stores) = doubling(alloc, 3)?;
     let capacity = Capacity::nearest(letters);
-    Some(run_traced(rt, alloc, &plan, stores, capacity, &OpenGate))
+    Some(run_traced(rt, alloc, &plan, stores, capacity, gate))
 }
 
-/// Passes whichever single growth is refused, like the test of a run without a trace.
+/// Passes whichever allocation is refused, like the test of a run without a trace.
 #[test]
 fn refused_memory_is_answered_or_counted_with_a_trace(rt: HostRuntime) {
-    let is_right = match ran_traced(&rt, rt.alloc(), 2) {
+    let counter = Counter::new();
+    let is_right = match ran_traced(&rt, rt.alloc(), 2, &counter) {
         Some(Ok((finished, trace))) => trace.len() == 8 && is_whole_or_lost(finished),
-        Some(Err(fault)) => fault == RunFault::Memory,
+        Some(Err(fault)) => is_refusal(fault, &counter),
         None => true,
     };
     assert!(rt; is_right);
