@@ -476,8 +476,9 @@ int cbgrid_matrix_power(const struct cbgrid_matrix *a, uint32_t factors, struct 
 
 /* Count the entries of each row, and of each column, whatever the values are. The result is one column over PLUS_TIMES,
  * with as many rows as a has rows, or columns; a count of 0 isn't stored. In a graph these are the edges that leave a
- * vertex, and those that lead to it. cbgrid_matrix_row_degrees costs a transpose, cbgrid_matrix_column_degrees a walk
- * over the columns that have entries. */
+ * vertex, and those that lead to it. cbgrid_matrix_row_degrees costs a walk over the entries and the rows, or a transpose
+ * if there are more than four rows for each entry; cbgrid_matrix_column_degrees a walk over the columns that have
+ * entries. */
 int cbgrid_matrix_row_degrees(const struct cbgrid_matrix *a, struct cbgrid_matrix **out);
 int cbgrid_matrix_column_degrees(const struct cbgrid_matrix *a, struct cbgrid_matrix **out);
 

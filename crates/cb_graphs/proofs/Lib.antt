@@ -2,7 +2,8 @@
 -- that have spread are the least vertices of components. Counting: sums over ranges and over lists. AnyOrder: joined
 -- triples are counted alike in every order. Listed: numbers that lists have in common. Later: orders of places. GrownLists:
 -- one more list after others. Beside: lists of the places of neighbours. Apexes: all triangles, and those of one
--- vertex, by the places of their vertices. DegreeCounts: how many entries a column has.
+-- vertex, by the places of their vertices. DegreeCounts, RowCounts: how many entries a column
+-- and a row has.
 pub mod Undirected
 pub mod Flooded
 pub mod Joined
@@ -14,3 +15,4 @@ pub mod GrownLists
 pub mod Beside
 pub mod Apexes
 pub mod DegreeCounts
+pub mod RowCounts

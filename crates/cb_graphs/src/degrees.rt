@@ -1,21 +1,64 @@
 //! Degrees: how many entries each row or column of a block has. In the graph of a square block, these are the edges that
 //! leave a vertex, and those that lead to it.
-ghost use Rattle.std.specs.Prelude.{◌≡◌, IfOk, OnOk};
+ghost use Rattle.std.specs.Prelude.{◌≡◌, ℕ, ◌<◌, ◌≤◌, ◌==◌, length, slice_index, count_by, All, IfOk, OnOk};
+ghost use Rattle.cb_semirings.specs.Arithmetic.{IsValue};
 ghost use Rattle.cb_semirings.specs.Tables.{plus_times};
 ghost use Rattle.cb_matrix.specs.Sparse.{IsMatrix};
 ghost use Rattle.cb_matrix.specs.Values.{empty_matrix};
 ghost use Rattle.cb_graphs.specs.Degrees.{row_degrees, column_degrees};
 
 use cb_dcsc::Block;
-use cb_matrix::{Entry, Shape};
-use cb_reshape::transpose;
+use cb_matrix::{Entry, LIMIT, Shape};
+use cb_reshape::{column_of_list, has_few_rows, transpose};
 use cb_semirings::{PlusTimes, Semiring};
 use std::alloc::{AllocError, Global};
 
 /// Returns how many entries each row of a block has, in one column over plus-times. A row without entries isn't stored.
 ///
-/// Costs a transpose.
+/// Costs one pass over the rows of the entries, and a list of one number for each row of the shape. If there are more than
+/// four rows for each entry, it costs a transpose of the block instead.
 pub fn row_degrees<S: Semiring>(
+    alloc: Global,
+    block: &Block<S>,
+) -> Result<Block<PlusTimes>, AllocError>
+    ensures { IfOk result (λ degrees. degrees ≡ row_degrees S.arithmetic block.now) }
+{
+    if has_few_rows(block) {
+        counted_row_degrees(alloc, block)
+    } else {
+        turned_row_degrees(alloc, block)
+    }
+}
+
+/// The degree of each row, by a count for each row of the shape.
+fn counted_row_degrees<S: Semiring>(
+    alloc: Global,
+    block: &Block<S>,
+) -> Result<Block<PlusTimes>, AllocError>
+    ensures { IfOk result (λ degrees. degrees ≡ row_degrees S.arithmetic block.now) }
+{
+    let shape = one_column(block.shape().rows());
+    let counts = row_counts(alloc, shape.rows(), block.row_numbers())?;
+    column_of_list(alloc, shape, &counts)
+}
+
+/// How often each row below a bound is listed.
+fn row_counts(alloc: Global, bound: u32, rows: &[u32]) -> Result<Vec<u64>, AllocError>
+    requires { All (λ r. r < bound) rows.now }
+    ensures length { IfOk result (λ v. length v.items ≡ bound) }
+    ensures values { IfOk result (λ v. All (IsValue plus_times) v.items) }
+    ensures counts { IfOk result (λ v. (i : ℕ) → i < bound → slice_index v.items i ≡ count_by (λ r. r == i) rows.now) }
+{
+    let mut counts = vec![in alloc; 0u64; bound as usize]?;
+    for row in rows {
+        let count = counts[*row as usize];
+        counts[*row as usize] = count + 1;
+    }
+    Ok(counts)
+}
+
+/// The degree of each row, as that of a column of the transpose.
+fn turned_row_degrees<S: Semiring>(
     alloc: Global,
     block: &Block<S>,
 ) -> Result<Block<PlusTimes>, AllocError>
@@ -35,16 +78,17 @@ pub fn column_degrees<S: Semiring>(
 ) -> Result<Block<PlusTimes>, AllocError>
     ensures { IfOk result (λ degrees. degrees ≡ column_degrees S.arithmetic block.now) }
 {
-    let mut degrees = Block::empty(alloc, one_column(block.shape()));
+    let mut degrees = Block::empty(alloc, one_column(block.shape().cols()));
     push_degrees(&mut degrees, block)?;
     Ok(degrees)
 }
 
-/// Returns the shape of one column with a row for each column of another shape.
-fn one_column(shape: Shape) -> Shape
-    ensures { result ≡ record { rows = shape.cols; cols = 1 } }
+/// Returns the shape of one column with this many rows.
+fn one_column(rows: u32) -> Shape
+    requires { rows ≤ LIMIT }
+    ensures { result ≡ record { rows = rows; cols = 1 } }
 {
-    Shape::new(shape.cols(), 1).unwrap()
+    Shape::new(rows, 1).unwrap()
 }
 
 /// Stores the degree of each column in an empty block.

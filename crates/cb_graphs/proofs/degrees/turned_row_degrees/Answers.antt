@@ -2,7 +2,7 @@ use Rattle.std.proofs.Common.{◌≡◌, ap, ◌∙◌}
 use Rattle.std.proofs.lemmas.Result.{IfOk-weaker}
 use Rattle.cb_graphs.specs.Degrees.{row_degrees, column_degrees}
 use Rattle.cb_graphs.proofs.DegreeCounts.{turned_degrees}
-use Rattle.cb_graphs.proofs.degrees.row_degrees.Goals as goal
+use Rattle.cb_graphs.proofs.degrees.turned_row_degrees.Goals as goal
 
 pub returns : goal.returns
 returns g c =
