@@ -1,6 +1,7 @@
 -- ReplacedColumn: a column whose values are replaced, one by one.
 -- ReplacedColumns: all columns. RegionValues: values in a region. DiagonalColumn: the diagonal as a column.
--- DiagonalPlaces: a column as a diagonal. ExtractedColumns: rows and columns by their numbers. NumberPairs: a walk over pairs of
+-- DiagonalPlaces: a column as a diagonal. ExtractedColumns: rows and columns by their numbers. ListedRows: rows whose
+-- numbers ascend. NumberPairs: a walk over pairs of
 -- numbers. ListMade: a column that is made row by row. PairedRows, PairedColumns: those of a Kronecker product.
 -- UpdatedPlaces: a matrix updated by another one, place by place. PowerSteps: powers, one product
 -- after another.
@@ -11,6 +12,7 @@ mod RegionValues
 mod DiagonalColumn
 mod DiagonalPlaces
 mod ExtractedColumns
+mod ListedRows
 mod NumberPairs
 mod ListMade
 mod PairedRows

@@ -9,3 +9,4 @@ pub mod FunctionLaws
 pub mod Selections
 pub mod Updates
 pub mod TurnedProducts
+pub mod ListedRows

@@ -1,9 +1,12 @@
 //! Rows and columns of a block by their numbers.
-ghost use Rattle.std.specs.Prelude.{◌≡◌, ◌<◌, ◌≤◌, length, All, IfOk, OnOk};
+//!
+//! Columns are found one by one. Rows are the columns of the transpose; but where their numbers ascend, their entries stay in
+//! order, so each entry's row is looked up instead, in a table with a place for each row of the block.
+ghost use Rattle.std.specs.Prelude.{◌≡◌, ◌≢◌, ℕ, ◌↔◌, ◌<◌, ◌≤◌, IsTrue, length, slice_index, All, AllPairs, IfOk, IfSome, IfNone, OnOk};
 ghost use Rattle.cb_matrix.specs.Sparse.{IsMatrix};
 ghost use Rattle.cb_matrix.specs.Values.{empty_matrix};
-ghost use Rattle.cb_matrix.specs.Operations.{transposed};
 ghost use Rattle.cb_selections.specs.Selections.{extracted, rows_by, columns_by};
+ghost use Rattle.cb_selections.specs.ListedRows.{ArePlaces, IsListed};
 
 use crate::shape_of;
 use cb_dcsc::Block;
@@ -12,10 +15,12 @@ use cb_reshape::transpose;
 use cb_semirings::Semiring;
 use std::alloc::{AllocError, Global};
 
+/// The most rows of a block for each listed row or entry for which a table of all its rows costs no more than they do.
+const ROWS_PER_PLACE: usize = 4;
+
 /// The rows and columns of a block with the given numbers, in that order. A number may appear more than once.
 ///
-/// Costs a binary search for each number, a few instructions for each entry of the columns and of the result, and two
-/// transposes.
+/// Costs a binary search for each column number, and what the rows cost (`extract_rows`) in these columns.
 pub fn extract<S: Semiring>(
     alloc: Global,
     block: &Block<S>,
@@ -28,28 +33,36 @@ pub fn extract<S: Semiring>(
     requires column_limit { length cols.now ≤ LIMIT }
     ensures { IfOk result (λ part. part ≡ extracted S.arithmetic rows.now cols.now block.now) }
 {
-    let turned = turned_columns(alloc, block, cols)?;
-    turned_columns(alloc, &turned, rows)
-}
-
-/// The transpose of the columns of a block with the given numbers, in that order.
-fn turned_columns<S: Semiring>(
-    alloc: Global,
-    block: &Block<S>,
-    columns: &[u32],
-) -> Result<Block<S>, AllocError>
-    requires { length columns.now ≤ LIMIT }
-    ensures { IfOk result (λ part. part ≡ transposed S.arithmetic (columns_by S.arithmetic columns.now block.now)) }
-{
-    let some = extract_columns(alloc, block, columns)?;
-    transpose(alloc, &some)
+    let some = extract_columns(alloc, block, cols)?;
+    extract_rows(alloc, &some, rows)
 }
 
 /// The rows of a block with the given numbers, in that order. A number may appear more than once.
 ///
-/// Costs a binary search for each number, a few instructions for each entry of the rows and of the result, and two
-/// transposes.
+/// If the numbers are those of all rows, in order, it costs a copy. If they ascend, it costs a few instructions for each
+/// number and each entry of the block. Otherwise, or if the block has more than four rows for each entry and for each number,
+/// it costs a binary search for each number, and two transposes.
 pub fn extract_rows<S: Semiring>(
+    alloc: Global,
+    block: &Block<S>,
+    rows: &[u32],
+) -> Result<Block<S>, AllocError>
+    requires rows { All (λ i. i < block.now.shape.rows) rows.now }
+    requires limit { length rows.now ≤ LIMIT }
+    ensures { IfOk result (λ part. part ≡ rows_by S.arithmetic rows.now block.now) }
+{
+    let height = block.shape().rows() as usize;
+    if rows.len() == height && counts_up(rows) {
+        return block.try_clone();
+    }
+    if height / ROWS_PER_PLACE <= rows.len().max(block.len()) && ascends(rows) {
+        return listed_rows(alloc, block, rows);
+    }
+    turned_rows(alloc, block, rows)
+}
+
+/// The rows with the given numbers, as columns of the transpose.
+fn turned_rows<S: Semiring>(
     alloc: Global,
     block: &Block<S>,
     rows: &[u32],
@@ -61,6 +74,133 @@ pub fn extract_rows<S: Semiring>(
     let turned = transpose(alloc, block)?;
     let some_rows = extract_columns(alloc, &turned, rows)?;
     transpose(alloc, &some_rows)
+}
+
+/// Whether numbers are 0, 1, 2 and so on.
+fn counts_up(numbers: &[u32]) -> bool
+    ensures { IsTrue result → (i : ℕ) → i < length numbers.now → slice_index numbers.now i ≡ i }
+{
+    for n in 0..numbers.len() {
+        if numbers[n] as usize != n {
+            return false;
+        }
+    }
+    true
+}
+
+/// Whether numbers ascend strictly.
+pub fn ascends(numbers: &[u32]) -> bool
+    ensures { IsTrue result ↔ AllPairs (λ i j. i < j) numbers.now }
+{
+    for n in 1..numbers.len() {
+        if numbers[n] <= numbers[n - 1] {
+            return false;
+        }
+    }
+    true
+}
+
+/// The rows with the given numbers, which ascend, by a table of their places.
+fn listed_rows<S: Semiring>(
+    alloc: Global,
+    block: &Block<S>,
+    listed: &[u32],
+) -> Result<Block<S>, AllocError>
+    requires rows { All (λ i. i < block.now.shape.rows) listed.now }
+    requires limit { length listed.now ≤ LIMIT }
+    requires ascending { AllPairs (λ i j. i < j) listed.now }
+    ensures { IfOk result (λ part. part ≡ rows_by S.arithmetic listed.now block.now) }
+{
+    let inner = block.shape();
+    let places = places_of(alloc, inner.rows(), listed)?;
+    let mut out = Block::empty(alloc, shape_of(listed.len() as u32, inner.cols()));
+    let mut rows = Vec::new(alloc);
+    let mut values = Vec::new(alloc);
+    push_listed(&mut out, &mut rows, &mut values, block, listed, &places)?;
+    Ok(out)
+}
+
+/// A table with a place for each number below a bound: where that number is in the list, if it is listed, and else any.
+fn places_of(alloc: Global, bound: u32, listed: &[u32]) -> Result<Vec<u32>, AllocError>
+    requires inside { All (λ i. i < bound) listed.now }
+    requires limit { length listed.now ≤ LIMIT }
+    requires ascending { AllPairs (λ i j. i < j) listed.now }
+    ensures { IfOk result (λ v. ArePlaces bound listed.now v.items) }
+{
+    let mut places = vec![in alloc; 0u32; bound as usize]?;
+    for n in 0..listed.len() {
+        places[listed[n] as usize] = n as u32;
+    }
+    Ok(places)
+}
+
+/// Where a number is in the list, if it is listed.
+#[inline(always)]
+fn place_of(listed: &[u32], places: &[u32], number: u32) -> Option<u32>
+    requires inside { number < length places.now }
+    requires places { ArePlaces (length places.now) listed.now places.now }
+    ensures some { IfSome result (λ i. i < length listed.now × (slice_index listed.now i ≡ number)) }
+    ensures none { IfNone result (All (λ r. r ≢ number) listed.now) }
+{
+    let place = places[number as usize];
+    if (place as usize) < listed.len() && listed[place as usize] == number {
+        Some(place)
+    } else {
+        None
+    }
+}
+
+/// Stores the listed rows in an empty block. The lists hold one column at a time.
+fn push_listed<S: Semiring>(
+    out: &mut Block<S>,
+    kept_rows: &mut Vec<u32>,
+    kept_values: &mut Vec<u64>,
+    block: &Block<S>,
+    listed: &[u32],
+    places: &[u32],
+) -> Result<(), AllocError>
+    requires matrix { IsMatrix S.arithmetic block.now }
+    requires out_matrix { IsMatrix S.arithmetic out.old }
+    requires empty { out.old ≡ empty_matrix (record { rows = length listed.now; cols = block.now.shape.cols }) }
+    requires rows { All (λ i. i < block.now.shape.rows) listed.now }
+    requires ascending { AllPairs (λ i j. i < j) listed.now }
+    requires places { ArePlaces block.now.shape.rows listed.now places.now }
+    ensures { OnOk result (out.new ≡ rows_by S.arithmetic listed.now block.now) }
+{
+    let columns = block.column_numbers();
+    for n in 0..columns.len() {
+        let (rows, values) = block.nth_column(n);
+        keep_listed(kept_rows, kept_values, rows, values, listed, places)?;
+        out.push_column(columns[n], kept_rows, kept_values)?;
+    }
+    Ok(())
+}
+
+/// Fills the two lists with the entries of a column that are in listed rows. The row of each is its place in the list.
+fn keep_listed(
+    kept_rows: &mut Vec<u32>,
+    kept_values: &mut Vec<u64>,
+    rows: &[u32],
+    values: &[u64],
+    listed: &[u32],
+    places: &[u32],
+) -> Result<(), AllocError>
+    requires count { length values.now ≡ length rows.now }
+    requires rows { AllPairs (λ i j. i < j) rows.now }
+    requires inside { All (λ i. i < length places.now) rows.now }
+    requires ascending { AllPairs (λ i j. i < j) listed.now }
+    requires places { ArePlaces (length places.now) listed.now places.now }
+    ensures { OnOk result (IsListed listed.now rows.now values.now kept_rows.new.items kept_values.new.items) }
+{
+    kept_rows.clear();
+    kept_values.clear();
+    for n in 0..rows.len() {
+        if let Some(place) = place_of(listed, places, rows[n]) {
+            kept_rows.push(place)?;
+            kept_values.push(values[n])?;
+        }
+    }
+    Ok(())
 }
 
 /// The columns of a block with the given numbers, in that order. A number may appear more than once.

@@ -3,7 +3,7 @@ use Rattle.std.proofs.lemmas.Result.{IfOk-weaker}
 use Rattle.cb_matrix.specs.Operations.{transposed}
 use Rattle.cb_selections.specs.Selections.{rows_by, columns_by}
 use Rattle.cb_selections.proofs.ExtractedColumns.{rows_are}
-use Rattle.cb_selections.proofs.extracts.extract_rows.Goals as goal
+use Rattle.cb_selections.proofs.extracts.turned_rows.Goals as goal
 
 pub returns : goal.returns
 returns g c =

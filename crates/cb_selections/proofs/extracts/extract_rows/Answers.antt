@@ -1,0 +1,16 @@
+use Rattle.std.proofs.Common.{◌≡◌, length, ap, ◌∙◌}
+use Rattle.std.proofs.lemmas.Result.{IfOk-weaker}
+use Rattle.cb_matrix.specs.Sparse.{Extent}
+use Rattle.cb_selections.specs.Selections.{rows_by}
+use Rattle.cb_selections.proofs.ListedRows.{all_listed}
+use Rattle.cb_selections.proofs.extracts.extract_rows.Goals as goal
+
+pub returns-then-counts_up : goal.returns-then-counts_up
+returns-then-counts_up g c =
+    let s = g.S.Semiring.arithmetic in
+    let a = c.args.block.now in
+    let rows = c.args.rows.now in
+    let height : c.rows-height.result ≡ a.shape.rows = c.rows-height.ensures.value ∙ ap (λ (x : Extent). x.rows) c.shape.ensures.shape in
+    let all : length rows ≡ a.shape.rows = c.if-rows-height.true ∙ height in
+    IfOk-weaker c.try_clone.result (λ m. m ≡ a) (λ m. m ≡ rows_by s rows a)
+    (λ m is. is ∙ all_listed s a c.shape.ensures.matrix rows g.met.S.Semiring.is_semiring all (c.counts_up.ensures c.if-counts_up.true)) c.try_clone.ensures
