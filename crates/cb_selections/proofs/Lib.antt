@@ -1,5 +1,5 @@
 -- ReplacedColumn: a column whose values are replaced, one by one.
--- ReplacedColumns: all columns. RegionValues: values in a region. DiagonalColumn: the diagonal as a column.
+-- ReplacedColumns: all columns. RegionValues: values in a region. RegionRanges: the part of a column in one. DiagonalColumn: the diagonal as a column.
 -- DiagonalPlaces: a column as a diagonal. ExtractedColumns: rows and columns by their numbers. ListedRows: rows whose
 -- numbers ascend. NumberPairs: a walk over pairs of
 -- numbers. ListMade: a column that is made row by row. PairedRows, PairedColumns: those of a Kronecker product.
@@ -9,6 +9,7 @@ mod AssignedPart
 mod ReplacedColumn
 mod ReplacedColumns
 mod RegionValues
+mod RegionRanges
 mod DiagonalColumn
 mod DiagonalPlaces
 mod ExtractedColumns

@@ -1,5 +1,5 @@
 -- Regions of a matrix, bounded by a diagonal.
-use Rattle.std.specs.Prelude.{ℕ, ◌+◌, ◌==◌, Bool, not, nat_le}
+use Rattle.std.specs.Prelude.{ℕ, ◌+◌, ◌==◌, Bool, true, false, not, nat_le}
 use Rattle.cb_selections.specs.declared.regions.Region.{Region}
 use Rattle.cb_selections.specs.declared.regions.Region.TheVariants.{Lower, Upper, On, Off}
 
@@ -10,3 +10,10 @@ is_in (Lower d) i j = nat_le (j + d.row) (i + d.column)
 is_in (Upper d) i j = nat_le (i + d.column) (j + d.row)
 is_in (On d) i j = (j + d.row) == (i + d.column)
 is_in (Off d) i j = not ((j + d.row) == (i + d.column))
+
+-- whether the rows of a region follow one another in each column
+abbrev pub is_one_range : Region → Bool
+is_one_range (Lower d) = true
+is_one_range (Upper d) = true
+is_one_range (On d) = true
+is_one_range (Off d) = false

@@ -10,9 +10,12 @@
 //! GraphBLAS C API Specification, version 2.1, section 4.3, and the write-back under a mask that ends each of them.
 #![tactic(auto)]
 
-ghost use Rattle.std.specs.Prelude.{◌≡◌, ℕ, ◌<◌, ◌≤◌, IfOk};
+ghost use Rattle.std.specs.Prelude.{◌≡◌, ℕ, ◌<◌, ◌≤◌, true, IfOk, OnOk};
 ghost use Rattle.cb_semirings.specs.Arithmetic.{IsValue};
+ghost use Rattle.cb_matrix.specs.Sparse.{IsMatrix};
+ghost use Rattle.cb_matrix.specs.Values.{empty_matrix};
 ghost use Rattle.cb_selections.specs.Functions.{operand_of};
+ghost use Rattle.cb_selections.specs.Regions.{is_one_range};
 ghost use Rattle.cb_selections.specs.Selections.{selected, applied};
 
 mod assignments;
@@ -44,7 +47,8 @@ pub use updates::{WriteBack, update};
 
 /// The entries of a block that are in a region.
 ///
-/// Costs a few instructions for each entry. Room is taken only as it is needed, since few entries may be in the region.
+/// Costs a binary search for each column that has entries, and a copy of the entries in the region; off a diagonal, a few
+/// instructions for each entry. Room is taken only as it is needed, since few entries may be in the region.
 pub fn select<S: Semiring>(
     alloc: Global,
     block: &Block<S>,
@@ -52,7 +56,33 @@ pub fn select<S: Semiring>(
 ) -> Result<Block<S>, AllocError>
     ensures { IfOk result (λ kept. kept ≡ selected S.arithmetic region block.now) }
 {
-    replaced(alloc, block, &region, 0)
+    if !region.is_one_range() {
+        return replaced(alloc, block, &region, 0);
+    }
+    let mut kept = Block::empty(alloc, block.shape());
+    push_ranges(&mut kept, block, region)?;
+    Ok(kept)
+}
+
+/// Stores the entries in a region in an empty block, where they follow one another in each column.
+fn push_ranges<S: Semiring>(
+    kept: &mut Block<S>,
+    block: &Block<S>,
+    region: Region,
+) -> Result<(), AllocError>
+    requires matrix { IsMatrix S.arithmetic block.now }
+    requires kept_matrix { IsMatrix S.arithmetic kept.old }
+    requires empty { kept.old ≡ empty_matrix block.now.shape }
+    requires one { is_one_range region ≡ true }
+    ensures { OnOk result (kept.new ≡ selected S.arithmetic region block.now) }
+{
+    let columns = block.column_numbers();
+    for n in 0..columns.len() {
+        let (rows, values) = block.nth_column(n);
+        let (start, end) = region.range(columns[n], rows);
+        kept.push_column(columns[n], &rows[start..end], &values[start..end])?;
+    }
+    Ok(())
 }
 
 /// The block with a function applied to each entry. Results of zero aren't stored.

@@ -6,8 +6,8 @@ use Rattle.cb_selections.specs.Selections.{selected}
 use Rattle.cb_selections.proofs.RegionValues.{selected_is}
 use Rattle.cb_selections.proofs.select.Goals as goal
 
-pub returns : goal.returns
-returns g c =
+pub returns-then-not-is_one_range : goal.returns-then-not-is_one_range
+returns-then-not-is_one_range g c =
     let s = g.S.Semiring.arithmetic in
     let a = c.args.block.now in
     let region = c.args.region in
