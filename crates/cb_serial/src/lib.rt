@@ -2,7 +2,7 @@
 //! refused.
 //!
 //! The cost of an operation is that of its kernel, which is proportional to entries and never to a dimension: see
-//! [`cb_product`], [`cb_masked`], [`cb_reshape`], [`cb_reductions`] and [`cb_elementwise`].
+//! [`cb_product`], [`cb_dense`], [`cb_masked`], [`cb_reshape`], [`cb_reductions`] and [`cb_elementwise`].
 #![tactic(auto)]
 
 ghost use Rattle.std.specs.Prelude.{◌≡◌, [], ◌∷◌, length, IfOk};
@@ -10,12 +10,14 @@ ghost use Rattle.cb_operations.specs.OperationAnswers.{operand_count_of, Agree, 
 ghost use Rattle.cb_serial.specs.Lent.{lent_in};
 
 mod checked;
+mod vector_products;
 
 use cb_dcsc::Block;
 use cb_operations::Operation;
 use cb_semirings::Semiring;
 pub use checked::{SerialFault, run};
 use std::alloc::{AllocError, Global};
+use vector_products::multiply_vector;
 
 /// The result of an operation on one block.
 pub fn unary<S: Semiring>(
@@ -48,7 +50,7 @@ pub fn binary<S: Semiring>(
 {
     match operation {
         Operation::Multiply => cb_product::multiply(alloc, a, b),
-        Operation::MultiplyVector => cb_product::multiply(alloc, a, b),
+        Operation::MultiplyVector => multiply_vector(alloc, a, b),
         Operation::Add => cb_elementwise::add(alloc, a, b),
         Operation::Times => cb_elementwise::times(alloc, a, b),
         _ => unreachable!(),

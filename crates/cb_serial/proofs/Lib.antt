@@ -1,0 +1,2 @@
+-- ListedSums: the sums of a product with a vector, in a list.
+mod ListedSums
