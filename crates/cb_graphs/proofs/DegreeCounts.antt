@@ -1,20 +1,21 @@
 -- How many entries a column has, as a count over all rows and as a list.
-use Rattle.std.proofs.Common.{◌≡◌, ◌≢◌, ℕ, ◌+◌, ◌<◌, ◌≤◌, true, false, cond, inr, ⊎_elim, List, [], ◌∷◌, length, take, map, get_or, sym, refl, ap, subst, ◌∙◌, arith, true≢false}
+use Rattle.std.proofs.Common.{◌≡◌, ◌≢◌, ℕ, ◌+◌, ◌<◌, ◌≤◌, true, false, cond, ⊎_elim, List, [], ◌∷◌, length, map, get_or, sym, refl, ap, subst, ◌∙◌, arith, true≢false}
 use Rattle.std.specs.Prelude.{All, AllPairs, Contains, not, ◌&&◌, ◌==◌}
 use Rattle.std.specs.List.{sum_by}
 use Rattle.std.proofs.lemmas.Bool.{cases_Bool, eq-eqb, ne_eqb, eqb-true, eqb-false}
-use Rattle.std.proofs.lemmas.List.{get_or-take, get_or_default, length-take-le, length-map}
+use Rattle.std.proofs.lemmas.List.{get_or_default, length-map}
 use Rattle.std.proofs.lemmas.List.Elements.{All-nil, All-cons, All-head, All-tail, All-from_get_or, All-get_or, All-weaker, All-filter, All-map}
 use Rattle.std.proofs.lemmas.List.Sums.{sum_by-cons}
 use Rattle.cb_semirings.specs.Arithmetic.{Arithmetic}
 use Rattle.cb_semirings.specs.Tables.{plus_times}
 use Rattle.cb_semirings.specs.Laws.{plus_times_is_semiring}
 use Rattle.cb_matrix.specs.declared.Entry.{Entry}
-use Rattle.cb_matrix.specs.Sparse.{Sparse, IsMatrix, IsBefore, at, value_at}
+use Rattle.cb_matrix.specs.Sparse.{Sparse, IsMatrix, at, value_at}
 use Rattle.cb_matrix.specs.Operations.{has_entry, transposed}
 use Rattle.cb_matrix.proofs.Made.{at-matrix_of, same_matrix_of}
 use Rattle.cb_matrix.proofs.Equal.{matrix_is}
 use Rattle.cb_dcsc.specs.Columns.{in_column, rows_of, values_of, row_value, columns_with_entries}
+use Rattle.cb_dcsc.specs.Compressed.{entries_in}
 use Rattle.cb_dcsc.proofs.Lookup.{column_value, row_value-found, row_value-absent, ascending_rows, rows_inside, as_long}
 use Rattle.cb_dcsc.proofs.ColumnEntries.{in_column-none}
 use Rattle.cb_dcsc.proofs.NumbersOfColumns.{entries_all}
@@ -91,15 +92,11 @@ module _ (es : List Entry) where
         | false ↦ λ f. degree_value cs i (λ h. none (All-cons (λ c. c ≢ i) c cs (eqb-false c i f) h))
       ] refl
 
-  -- the degrees so far are before the next one
-  pub degrees_before : (cs : List ℕ) (n : ℕ) → AllPairs (λ c d. c < d) cs → n < length cs → (v : ℕ) →
-      All (λ e. IsBefore e (record { row = get_or cs n 0; column = 0; value = v })) (map (degree_entry es) (take n cs))
-  degrees_before cs n up l v =
-      All-map (λ e. IsBefore e (record { row = get_or cs n 0; column = 0; value = v })) (degree_entry es) (take n cs)
-      (All-from_get_or (λ c. IsBefore (degree_entry es c) (record { row = get_or cs n 0; column = 0; value = v })) (take n cs) 0 (λ k m.
-      let size = length-take-le n cs (omega arith) in
-      let below : k < n = omega arith in
-      inr (refl, subst (λ c. c < get_or cs n 0) (sym (get_or-take n cs k 0 below)) (up k n 0 below l))))
+-- the entries of a column with these degrees
+pub degree_entries : (es : List Entry) (cs : List ℕ) → entries_in 0 cs (map (λ c. length (in_column c es)) cs) ≡ map (degree_entry es) cs
+unfolding entries_in
+degree_entries es [] = refl
+degree_entries es (c ∷ cs) = ap (λ xs. degree_entry es c ∷ xs) (degree_entries es cs)
 
 -- the degrees of all columns with entries are those of the matrix
 pub degrees_are : (s : Arithmetic) (a degrees : Sparse) (cs : List ℕ) → IsMatrix s a → IsMatrix plus_times degrees → cs ≡ columns_with_entries a.entries →

@@ -1,14 +1,13 @@
 //! Degrees: how many entries each row or column of a block has. In the graph of a square block, these are the edges that
 //! leave a vertex, and those that lead to it.
-ghost use Rattle.std.specs.Prelude.{◌≡◌, ℕ, ◌<◌, ◌≤◌, ◌==◌, length, slice_index, count_by, All, IfOk, OnOk};
+ghost use Rattle.std.specs.Prelude.{◌≡◌, ◌≢◌, ℕ, ◌<◌, ◌≤◌, ◌==◌, length, map, slice_index, count_by, All, IfOk};
 ghost use Rattle.cb_semirings.specs.Arithmetic.{IsValue};
 ghost use Rattle.cb_semirings.specs.Tables.{plus_times};
-ghost use Rattle.cb_matrix.specs.Sparse.{IsMatrix};
-ghost use Rattle.cb_matrix.specs.Values.{empty_matrix};
+ghost use Rattle.cb_dcsc.specs.Columns.{in_column, columns_with_entries};
 ghost use Rattle.cb_graphs.specs.Degrees.{row_degrees, column_degrees};
 
 use cb_dcsc::Block;
-use cb_matrix::{Entry, LIMIT, Shape};
+use cb_matrix::{LIMIT, Shape};
 use cb_reshape::{column_of_list, has_few_rows, transpose};
 use cb_semirings::{PlusTimes, Semiring};
 use std::alloc::{AllocError, Global};
@@ -78,8 +77,9 @@ pub fn column_degrees<S: Semiring>(
 ) -> Result<Block<PlusTimes>, AllocError>
     ensures { IfOk result (λ degrees. degrees ≡ column_degrees S.arithmetic block.now) }
 {
+    let counts = column_counts(alloc, block)?;
     let mut degrees = Block::empty(alloc, one_column(block.shape().cols()));
-    push_degrees(&mut degrees, block)?;
+    degrees.push_column(0, block.column_numbers(), &counts)?;
     Ok(degrees)
 }
 
@@ -91,25 +91,17 @@ fn one_column(rows: u32) -> Shape
     Shape::new(rows, 1).unwrap()
 }
 
-/// Stores the degree of each column in an empty block.
-fn push_degrees<S: Semiring>(
-    degrees: &mut Block<PlusTimes>,
-    block: &Block<S>,
-) -> Result<(), AllocError>
-    requires block { IsMatrix S.arithmetic block.now }
-    requires matrix { IsMatrix plus_times degrees.old }
-    requires empty { degrees.old ≡ empty_matrix (record { rows = block.now.shape.cols; cols = 1 }) }
-    ensures { OnOk result (degrees.new ≡ column_degrees S.arithmetic block.now) }
+/// How many entries each column that has entries has.
+fn column_counts<S: Semiring>(alloc: Global, block: &Block<S>) -> Result<Vec<u64>, AllocError>
+    ensures counts { IfOk result (λ v. v.items ≡ map (λ c. length (in_column c block.now.entries)) (columns_with_entries block.now.entries)) }
+    ensures values { IfOk result (λ v. All (IsValue plus_times) v.items) }
+    ensures some { IfOk result (λ v. All (λ n. n ≢ 0) v.items) }
 {
-    let columns = block.column_numbers();
-    degrees.reserve(columns.len())?;
-    for n in 0..columns.len() {
+    let columns = block.columns();
+    let mut counts = Vec::with_capacity(alloc, columns)?;
+    for n in 0..columns {
         let (start, end) = block.nth_range(n);
-        degrees.push(Entry {
-            row: columns[n],
-            column: 0,
-            value: (end - start) as u64,
-        })?;
+        counts.push((end - start) as u64)?;
     }
-    Ok(())
+    Ok(counts)
 }
