@@ -68,11 +68,13 @@ fn replace_column<S: Semiring, R: Rule<S>>(
 {
     kept_rows.clear();
     kept_values.clear();
+    kept_rows.reserve(rows.len())?;
+    kept_values.reserve(rows.len())?;
     for n in 0..rows.len() {
         let value = rule.make(rows[n], column, values[n]);
         if value != S::zero() {
-            kept_rows.push(rows[n])?;
-            kept_values.push(value)?;
+            kept_rows.push_reserved(rows[n]);
+            kept_values.push_reserved(value);
         }
     }
     Ok(())
