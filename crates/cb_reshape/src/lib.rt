@@ -138,17 +138,17 @@ pub fn column_of_list<S: Semiring>(
     requires values { All (IsValue S.arithmetic) values.now }
     ensures { IfOk result (λ m. m ≡ matrix_of S.arithmetic shape (λ i _. slice_index_or values.now i S.arithmetic.zero)) }
 {
-    let mut made = Block::empty(alloc, shape);
+    let mut rows = Vec::with_capacity(alloc, values.len())?;
+    let mut stored = Vec::with_capacity(alloc, values.len())?;
     for row in 0..shape.rows() {
         let value = values[row as usize];
         if value != S::zero() {
-            made.push(Entry {
-                row,
-                column: 0,
-                value,
-            })?;
+            rows.push(row)?;
+            stored.push(value)?;
         }
     }
+    let mut made = Block::empty(alloc, shape);
+    made.push_column(0, &rows, &stored)?;
     Ok(made)
 }
 
