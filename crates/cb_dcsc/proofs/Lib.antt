@@ -17,6 +17,7 @@
 -- Pushed: one more entry after all others: `matrix_push`, and in the lists `pushed_same`, `pushed_new`.
 -- Faultless: an entry in order comes after those of the block: `next_after`.
 -- Appended: entries added after all those of a block: `matrix_append`; without them it is a block: `matrix_front`.
+-- Revalued: a matrix with other values at its places: `revalued_matrix`.
 pub mod ColumnEntries
 pub mod Lookup
 pub mod NumbersOfColumns
@@ -26,6 +27,7 @@ pub mod Held
 pub mod Pushed
 pub mod Faultless
 pub mod Appended
+pub mod Revalued
 -- For this crate alone, beside the rest of those above. Csc: compressed columns without the empty ones. NextColumn: what a
 -- push of a column requires, from a matrix that ends with the column. LaterColumns: the columns of another block behind all others.
 pub mod Csc

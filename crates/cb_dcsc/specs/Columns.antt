@@ -36,3 +36,9 @@ with_entry m e = record { shape = m.shape; entries = m.entries ++ e ∷ [] }
 -- a matrix with more entries, after all the others
 abbrev pub with_entries : Sparse → List Entry → Sparse
 with_entries m es = record { shape = m.shape; entries = m.entries ++ es }
+
+-- entries with other values, one for each
+unfoldable pub revalued : List Entry → List ℕ → List Entry
+revalued [] vs = []
+revalued (e ∷ es) [] = []
+revalued (e ∷ es) (v ∷ vs) = record { row = e.row; column = e.column; value = v } ∷ revalued es vs

@@ -61,7 +61,7 @@ impl<S: Semiring> Block<S> {
     ghost use Rattle.cb_matrix.specs.Values.{empty_matrix};
     ghost use Rattle.cb_dcsc.specs.declared.block_faults.BlockFault.TheVariants.{Place, Order, Zero};
     ghost use Rattle.cb_dcsc.specs.BlockFaults.{first_fault};
-    ghost use Rattle.cb_dcsc.specs.Columns.{in_column, rows_of, values_of, columns_with_entries, with_entry, with_entries};
+    ghost use Rattle.cb_dcsc.specs.Columns.{in_column, rows_of, values_of, columns_with_entries, with_entry, with_entries, revalued};
 
     /// The block without entries.
     pub fn empty(alloc: Global, shape: Shape) -> Self
@@ -295,6 +295,25 @@ impl<S: Semiring> Block<S> {
             starts: Vec::from_slice(alloc, &self.starts)?,
             rows: Vec::from_slice(alloc, &self.rows)?,
             values: Vec::from_slice(alloc, &self.values)?,
+            semiring: PhantomData,
+        })
+    }
+
+    /// The block with other values at the same places, one for each entry, by column and then by row. The list of values is
+    /// consumed and becomes the block's; the other lists are copied whole.
+    pub fn with_values(&self, values: Vec<u64>) -> Result<Self, AllocError>
+        requires count { length values.items ≡ length self.now.entries }
+        requires values { All (IsValue S.arithmetic) values.items }
+        requires not_zero { All (λ v. v ≢ S.arithmetic.zero) values.items }
+        ensures { IfOk result (λ m. m ≡ record { shape = self.now.shape; entries = revalued self.now.entries values.items }) }
+    {
+        let alloc = *self.rows.allocator();
+        Ok(Block {
+            shape: self.shape,
+            columns: Vec::from_slice(alloc, &self.columns)?,
+            starts: Vec::from_slice(alloc, &self.starts)?,
+            rows: Vec::from_slice(alloc, &self.rows)?,
+            values,
             semiring: PhantomData,
         })
     }

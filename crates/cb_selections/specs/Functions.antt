@@ -1,5 +1,5 @@
 -- Functions of the value and the place of an entry.
-use Rattle.std.specs.Prelude.{ℕ, ◌<◌}
+use Rattle.std.specs.Prelude.{ℕ, ◌<◌, Bool, true, false}
 use Rattle.cb_semirings.specs.Arithmetic.{Arithmetic, IsValue}
 use Rattle.cb_matrix.specs.Sparse.{Extent}
 use Rattle.cb_selections.specs.declared.functions.Function.{Function}
@@ -31,3 +31,12 @@ function_value s (LeftProduct n) i j x = s.mul n x
 function_value s (RightProduct n) i j x = s.mul x n
 function_value s Row i j x = i
 function_value s Column i j x = j
+
+-- whether the result depends on the column
+abbrev pub depends_on_column : Function → Bool
+depends_on_column (Constant n) = false
+depends_on_column (Sum n) = false
+depends_on_column (LeftProduct n) = false
+depends_on_column (RightProduct n) = false
+depends_on_column Row = false
+depends_on_column Column = true

@@ -1,6 +1,7 @@
 -- Selections, each by the value that it has at each place, and the Kronecker product.
-use Rattle.std.specs.Prelude.{◌≡◌, ℕ, cond, ◌-◌, ◌==◌, ◌*◌, ◌/◌, ◌%◌, min, List, length, slice_index}
+use Rattle.std.specs.Prelude.{◌≡◌, ℕ, cond, ◌-◌, ◌==◌, ◌*◌, ◌/◌, ◌%◌, min, map, List, length, slice_index}
 use Rattle.cb_semirings.specs.Arithmetic.{Arithmetic}
+use Rattle.cb_matrix.specs.declared.Entry.{Entry}
 use Rattle.cb_matrix.specs.Sparse.{Sparse, Extent, at}
 use Rattle.cb_matrix.specs.Values.{matrix_of}
 use Rattle.cb_matrix.specs.Operations.{is_covered}
@@ -18,6 +19,10 @@ selected s region a = matrix_of s a.shape (λ i j. where_true s.zero (is_in regi
 -- a matrix with a function applied to each entry
 abbrev pub applied : Arithmetic → Function → Sparse → Sparse
 applied s function a = replaced s (function_value s function) a
+
+-- the result of a function for each entry
+abbrev pub results_of : Arithmetic → Function → List Entry → List ℕ
+results_of s function es = map (λ e. function_value s function e.row e.column e.value) es
 
 -- the main diagonal, as a matrix of one column
 abbrev pub diagonal_of : Arithmetic → Sparse → Sparse

@@ -3,20 +3,21 @@
 //! and powers.
 //!
 //! Each walks the columns that have entries, in order, so its cost is proportional to the entries, whatever the
-//! dimensions. A rule (`rules`) gives an entry its new value: it is a region of places (`regions`), or a function of the
-//! value and the place (`functions`). One walk (`replacements`) applies any rule.
+//! dimensions. A rule (`value_rules`) gives an entry its new value: it is a region of places (`regions`), or a function of the
+//! value and the place (`functions`). One walk (`replacements`) applies any rule; where all entries keep their places, or
+//! those of a column that stay follow one another, lists are copied whole.
 //!
 //! The operations are `GrB_select`, `GrB_apply`, `GrB_Matrix_diag`, `GrB_extract`, `GrB_assign` and `GrB_kronecker` of The
 //! GraphBLAS C API Specification, version 2.1, section 4.3, and the write-back under a mask that ends each of them.
 #![tactic(auto)]
 
-ghost use Rattle.std.specs.Prelude.{◌≡◌, ℕ, ◌<◌, ◌≤◌, true, IfOk, OnOk};
+ghost use Rattle.std.specs.Prelude.{◌≡◌, ◌≢◌, ◌↔◌, ℕ, ◌<◌, ◌≤◌, true, false, IsTrue, All, IfOk, OnOk};
 ghost use Rattle.cb_semirings.specs.Arithmetic.{IsValue};
 ghost use Rattle.cb_matrix.specs.Sparse.{IsMatrix};
 ghost use Rattle.cb_matrix.specs.Values.{empty_matrix};
-ghost use Rattle.cb_selections.specs.Functions.{operand_of};
+ghost use Rattle.cb_selections.specs.Functions.{operand_of, depends_on_column};
 ghost use Rattle.cb_selections.specs.Regions.{is_one_range};
-ghost use Rattle.cb_selections.specs.Selections.{selected, applied};
+ghost use Rattle.cb_selections.specs.Selections.{selected, applied, results_of};
 
 mod assignments;
 mod diagonals;
@@ -87,7 +88,8 @@ fn push_ranges<S: Semiring>(
 
 /// The block with a function applied to each entry. Results of zero aren't stored.
 ///
-/// Costs a few instructions for each entry.
+/// Costs a few instructions for each entry. Unless the function gives column numbers or a result is zero, the places of the
+/// entries are copied whole.
 pub fn apply<S: Semiring>(
     alloc: Global,
     block: &Block<S>,
@@ -96,7 +98,37 @@ pub fn apply<S: Semiring>(
     requires { (i j : ℕ) → i < block.now.shape.rows → j < block.now.shape.cols → IsValue S.arithmetic (operand_of function i j) }
     ensures { IfOk result (λ made. made ≡ applied S.arithmetic function block.now) }
 {
+    let _shape = block.shape();
+    if !function.depends_on_column() {
+        let values = results(alloc, block, function)?;
+        if has_no_zero::<S>(&values) {
+            return block.with_values(values);
+        }
+    }
     replaced(alloc, block, &function, block.len())
+}
+
+/// The result of a function for each entry, by column and then by row.
+fn results<S: Semiring>(
+    alloc: Global,
+    block: &Block<S>,
+    function: Function,
+) -> Result<Vec<u64>, AllocError>
+    requires matrix { IsMatrix S.arithmetic block.now }
+    requires column { depends_on_column function ≡ false }
+    requires operands { (i j : ℕ) → i < block.now.shape.rows → j < block.now.shape.cols → IsValue S.arithmetic (operand_of function i j) }
+    ensures { IfOk result (λ values. values.items ≡ results_of S.arithmetic function block.now.entries) }
+{
+    let mut values = Vec::from_slice(alloc, block.values())?;
+    function.replace_each::<S>(block.row_numbers(), &mut values);
+    Ok(values)
+}
+
+/// Whether no value is the semiring's zero.
+fn has_no_zero<S: Semiring>(values: &[u64]) -> bool
+    ensures { IsTrue result ↔ All (λ v. v ≢ S.arithmetic.zero) values.now }
+{
+    values.iter().all(|value| *value != S::zero())
 }
 
 /// The shape with this many rows and columns.
