@@ -417,8 +417,9 @@ int cbgrid_matrix_part(const struct cbgrid_matrix *a, uint32_t row, uint32_t row
 
 /* Makes the matrix whose row i and column j are row rows[i] and column columns[j] of a, in any order, with repetitions.
  * CBGRID_TOO_LARGE if a list has more than CBGRID_LIMIT elements, then CBGRID_PLACE if a doesn't have such a row or
- * column. A list of length 0 may be a null pointer. Costs a binary search for each element, the entries of the columns
- * and of the result, and two transposes. */
+ * column. A list of length 0 may be a null pointer. Costs a binary search for each column, the elements of `rows`, and
+ * the entries of these columns. If the rows don't ascend, or if a has more than four rows for each of them and for each of
+ * these entries, it also costs a binary search for each row, and two transposes. */
 int cbgrid_matrix_extract(const struct cbgrid_matrix *a, const uint32_t *rows, size_t row_count,
                           const uint32_t *columns, size_t column_count, struct cbgrid_matrix **out);
 

@@ -199,7 +199,8 @@ fn extract_kept<S: Keep>(
 }
 
 /// Keeps the matrix of the rows and columns of a kept matrix by their numbers, in any order, with repetitions. Costs a
-/// binary search for each number, and two transposes of the result.
+/// binary search for each column number, the row numbers, and the entries of these columns. If the row numbers don't ascend,
+/// it also costs a binary search for each, and two transposes.
 #[tactic(auto, unfolding(crate::specs::Kept::semiring_of, crate::specs::Kept::matrix_in))]
 pub fn kept_extract(alloc: Global, kept: &Kept, rows: &[u32], cols: &[u32]) -> Result<Kept, Fault>
     ensures { IsAnswer (number_faults rows.now cols.now (matrix_in kept.now).shape) (IsKeptExtract rows.now cols.now kept.now) result }

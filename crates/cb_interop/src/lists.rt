@@ -1,11 +1,12 @@
 //! A matrix in compressed columns, as C passes it, and whether its lists are well formed.
-ghost use Rattle.std.specs.Prelude.{◌≡◌, ◌↔◌, ◌≤◌, ◌<◌, ◌+◌, IsTrue, length, slice_index, All, AllPairs, IfOk, IfErr};
+ghost use Rattle.std.specs.Prelude.{◌≡◌, ◌↔◌, ◌≤◌, ◌<◌, ◌+◌, IsTrue, length, slice_index, All, IfOk, IfErr};
 ghost use Rattle.cb_semirings.specs.Arithmetic.{IsValue};
 ghost use Rattle.cb_interop.specs.Lists.{count, column, starts, rows_in, values_in, shape_of, HasForm, Fits, HasStarts, HaveLengths, StartsRise, RowsAscend, AreOrdered, AreInside, AreLists};
 ghost use Rattle.cb_interop.specs.Refusals.{matrix_faults};
 
 use crate::faults::Fault;
 use cb_matrix::{LIMIT, Shape};
+use cb_selections::ascends;
 use cb_semirings::Semiring;
 
 /// A matrix in compressed columns. The stored columns are those in `columns` (DCSC, `kind` 0), or all columns (CSC, `kind`
@@ -212,18 +213,6 @@ impl Columns {
         }
         Ok(())
     }
-}
-
-/// Whether numbers ascend strictly.
-fn ascends(numbers: &[u32]) -> bool
-    ensures { IsTrue result ↔ AllPairs (λ i j. i < j) numbers.now }
-{
-    for n in 1..numbers.len() {
-        if numbers[n] <= numbers[n - 1] {
-            return false;
-        }
-    }
-    true
 }
 
 /// Whether all numbers are below a limit.
