@@ -255,7 +255,7 @@ int cbgrid_vector(uint32_t semiring, uint32_t grid, const struct cbgrid_columns 
 int cbgrid_transpose(uint32_t semiring, uint32_t grid, const struct cbgrid_columns *a, struct cbgrid_columns *out);
 
 /* Adds up each row of a. The result is one column with as many rows as a. A sum that is zero isn't stored. Costs a
- * transpose of a. */
+ * walk over the entries and the rows, or a transpose of a if it has more than four rows for each entry. */
 int cbgrid_row_sums(uint32_t semiring, uint32_t grid, const struct cbgrid_columns *a, struct cbgrid_columns *out);
 
 /* Adds up each column of a. The result is one row with as many columns as a. A sum that is zero isn't stored. */

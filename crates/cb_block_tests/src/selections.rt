@@ -224,7 +224,8 @@ fn replaced() -> &'static [Case<'static>] {
     REPLACED
 }
 
-/// Rows and columns in another order, some left out and some repeated; none; and the last of the largest sides.
+/// Rows and columns in another order, some left out and some repeated; none; rows in order, some and all; and the last of the
+/// largest sides.
 const EXTRACTED: &[Case<'static>] = &[
     (
         Call::Extract(&[3, 0, 0], &[3, 1, 3, 0]),
@@ -242,6 +243,23 @@ const EXTRACTED: &[Case<'static>] = &[
         &[((LIMIT, LIMIT), entries![(LAST, 0, 1), (LAST, LAST, TOP)])],
         ((2, 2), entries![(0, 0, 1), (0, 1, TOP)]),
     ),
+    (
+        Call::ExtractRows(&[0, 2, 3]),
+        &[GIVEN],
+        (
+            (3, 5),
+            entries![
+                (0, 0, 1),
+                (1, 0, 2),
+                (2, 1, 4),
+                (0, 2, 5),
+                (1, 3, 6),
+                (2, 3, 7),
+                (0, 4, 8)
+            ],
+        ),
+    ),
+    (Call::ExtractRows(&[0, 1, 2, 3]), &[GIVEN], GIVEN),
     (
         Call::ExtractRows(&[3, 0, 0]),
         &[GIVEN],
