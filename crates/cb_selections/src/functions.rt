@@ -70,6 +70,17 @@ impl Function {
         }
     }
 
+    /// Whether it gives zero in some row of a shape, whatever the value is.
+    pub(crate) fn gives_zeros<S: Semiring>(&self, shape: Shape) -> bool
+        ensures { IsTrue result → (i : ℕ) × ((j x : ℕ) → function_value S.arithmetic self.now i j x ≡ S.arithmetic.zero) }
+    {
+        match self {
+            Function::Constant(number) => *number == S::zero(),
+            Function::Row => S::zero() < u64::from(shape.rows()),
+            _ => false,
+        }
+    }
+
     /// Replaces each value by the result in its row and in column 0. Each function has a loop of its own.
     pub(crate) fn replace_each<S: Semiring>(&self, rows: &[u32], values: &mut [u64])
         requires lengths { length values.old ≡ length rows.now }

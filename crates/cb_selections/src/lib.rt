@@ -88,8 +88,8 @@ fn push_ranges<S: Semiring>(
 
 /// The block with a function applied to each entry. Results of zero aren't stored.
 ///
-/// Costs a few instructions for each entry. Unless the function gives column numbers or a result is zero, the places of the
-/// entries are copied whole.
+/// Costs a few instructions for each entry. Unless the function gives numbers of columns, or of rows of which one is the
+/// semiring's zero, or a result is zero, the places of the entries are copied whole.
 pub fn apply<S: Semiring>(
     alloc: Global,
     block: &Block<S>,
@@ -98,8 +98,8 @@ pub fn apply<S: Semiring>(
     requires { (i j : ℕ) → i < block.now.shape.rows → j < block.now.shape.cols → IsValue S.arithmetic (operand_of function i j) }
     ensures { IfOk result (λ made. made ≡ applied S.arithmetic function block.now) }
 {
-    let _shape = block.shape();
-    if !function.depends_on_column() {
+    let gives_zeros = function.gives_zeros::<S>(block.shape());
+    if !gives_zeros && !function.depends_on_column() {
         let values = results(alloc, block, function)?;
         if has_no_zero::<S>(&values) {
             return block.with_values(values);
