@@ -4,7 +4,7 @@ use Rattle.cb_semirings.specs.Arithmetic.{Arithmetic}
 use Rattle.cb_semirings.specs.Names.{numbered}
 use Rattle.cb_operations.specs.declared.operations.Operation.{Operation}
 use Rattle.cb_market_lines.specs.declared.ReadFault.{ReadFault}
-use Rattle.cb_interop.specs.declared.lists.Columns.{Columns}
+use Rattle.cb_lists.specs.declared.lists.Columns.{Columns}
 use Rattle.cb_interop.specs.declared.faults.Fault.{Fault}
 use Rattle.cb_interop.specs.declared.faults.Fault.TheVariants.{Text}
 use Rattle.cb_interop.specs.Refusals.{code_of, over, Over, faults_of}

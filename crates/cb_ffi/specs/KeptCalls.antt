@@ -6,7 +6,7 @@ use Rattle.cb_semirings.specs.Arithmetic.{Arithmetic}
 use Rattle.cb_semirings.specs.declared.names.SemiringName.{SemiringName}
 use Rattle.cb_matrix.specs.Sparse.{Sparse}
 use Rattle.cb_operations.specs.declared.operations.Operation.{Operation}
-use Rattle.cb_interop.specs.declared.lists.Columns.{Columns}
+use Rattle.cb_lists.specs.declared.lists.Columns.{Columns}
 use Rattle.cb_interop.specs.declared.triples.Triple.{Triple}
 use Rattle.cb_interop.specs.declared.faults.Fault.{Fault}
 use Rattle.cb_interop.specs.declared.faults.Fault.TheVariants.{Memory}

@@ -31,7 +31,7 @@ ghost use Rattle.cb_searches.specs.Walks.{AreDistances, AreLevels};
 ghost use Rattle.cb_searches.specs.SeveralSources.{AreDistancesFrom, AreLevelsFrom};
 ghost use Rattle.cb_searches.specs.GivenNumbers.{AreDistancesGiven, AreLevelsGiven};
 ghost use Rattle.cb_graphs.specs.Triangles.{triangle_count, stopped};
-ghost use Rattle.cb_interop.specs.Lists.{HasLists};
+ghost use Rattle.cb_lists.specs.Lists.{HasLists};
 ghost use Rattle.cb_interop.specs.Refusals.{code_of, IsMemory, first_over, graph_faults, read_faults, text_faults};
 ghost use Rattle.cb_interop.specs.Answers.{prune_of, HasNumbers, IsRead, IsTextOf};
 ghost use Rattle.cb_interop.specs.Kept.{matrix_in, semiring_of};
@@ -51,13 +51,14 @@ ghost use Rattle.cb_ffi.specs.KeptCalls.{HasHandedOut, IsDegreesCall, IsEndsCall
 mod handles;
 
 use cb_interop::{
-    Allowed, Axis, Columns, Fault, Kept, Pairing, Selection, Summary, Text, Triple, answer,
-    function_of, keep_lists, keep_triples, kept_components, kept_degrees, kept_ends, kept_extract,
-    kept_join, kept_masked_panel, kept_numbers, kept_numbers_from, kept_numbers_given,
-    kept_outside, kept_pair, kept_panel, kept_parents, kept_selection, kept_total, kept_triangles,
-    kept_update, lists_of, numbers, operate, prune_of, read_kept, read_lists, region_of,
-    summary_of, text_of, text_of_lists, value_at, write_back_of,
+    Allowed, Axis, Fault, Kept, Pairing, Selection, Summary, Text, Triple, answer, function_of,
+    keep_lists, keep_triples, kept_components, kept_degrees, kept_ends, kept_extract, kept_join,
+    kept_masked_panel, kept_numbers, kept_numbers_from, kept_numbers_given, kept_outside,
+    kept_pair, kept_panel, kept_parents, kept_selection, kept_total, kept_triangles, kept_update,
+    lists_of, numbers, operate, prune_of, read_kept, read_lists, region_of, summary_of, text_of,
+    text_of_lists, value_at, write_back_of,
 };
+use cb_lists::Columns;
 use cb_operations::Operation;
 use cb_selections::WriteBack;
 use cb_semirings::{MinPlus, OrAnd};

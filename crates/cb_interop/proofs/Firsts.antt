@@ -6,10 +6,10 @@ use Rattle.std.proofs.lemmas.List.Elements.{All-head, All-tail}
 use Rattle.cb_semirings.specs.Arithmetic.{Arithmetic}
 use Rattle.cb_operations.specs.declared.operations.Operation.{Operation}
 use Rattle.cb_operations.specs.OperationAnswers.{Agree}
-use Rattle.cb_interop.specs.declared.lists.Columns.{Columns}
+use Rattle.cb_lists.specs.declared.lists.Columns.{Columns}
 use Rattle.cb_interop.specs.declared.faults.Fault.{Fault}
 use Rattle.cb_interop.specs.declared.faults.Fault.TheVariants.{Grid, Test, Form, TooLarge, Lengths, Order, Place, Value, Shapes, NotSquare, Source}
-use Rattle.cb_interop.specs.Lists.{shape_of, AreLists, HasForm, Fits, HaveLengths, AreOrdered, AreInside, AreValues}
+use Rattle.cb_lists.specs.Lists.{shape_of, AreLists, HasForm, Fits, HaveLengths, AreOrdered, AreInside, AreValues}
 use Rattle.cb_interop.specs.Refusals.{Unless, IsMemory, IsSide, matrix_faults, each_faults, operand_faults, faults_of, graph_faults, text_faults}
 use Rattle.cb_interop.specs.Answers.{NoFault, IsAnswer}
 

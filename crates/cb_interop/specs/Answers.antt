@@ -1,5 +1,5 @@
 -- What a call returns.
-use Rattle.std.specs.Prelude.{◌≡◌, ℕ, ◌==◌, cond, List, Option, Some, None, Result, Ok, Err}
+use Rattle.std.specs.Prelude.{◌≡◌, ℕ, ◌==◌, cond, List, map, Option, Some, None, Result, Ok, Err}
 use Rattle.cb_matrix.specs.declared.passing.Test.TheVariants.{Below, Above, Equal}
 use Rattle.cb_semirings.specs.Arithmetic.{Arithmetic}
 use Rattle.cb_semirings.specs.Names.{numbered}
@@ -11,9 +11,9 @@ use Rattle.cb_operations.specs.OperationAnswers.{answer_of}
 use Rattle.cb_market_lines.specs.declared.ReadFault.{ReadFault}
 use Rattle.cb_market_lines.specs.Reads.{Reads}
 use Rattle.cb_market_pages.specs.Text.{text_of}
-use Rattle.cb_interop.specs.declared.lists.Columns.{Columns}
+use Rattle.cb_lists.specs.declared.lists.Columns.{Columns}
+use Rattle.cb_lists.specs.Lists.{matrix_of, HasLists}
 use Rattle.cb_interop.specs.declared.texts.Text.{Text as Bytes}
-use Rattle.cb_interop.specs.Lists.{matrix_of, matrices, HasLists}
 use Rattle.cb_interop.specs.Refusals.{over, Over}
 use Rattle.cb_interop.specs.declared.faults.Fault.{Fault}
 use Rattle.cb_interop.specs.declared.faults.Fault.TheVariants.{Text, Memory}
@@ -35,6 +35,10 @@ IsAnswerOver semiring faults is = IsAnswer (over (numbered semiring) faults) (λ
 -- the prune by the test of a number, 0 to 2, with its bound
 abbrev pub prune_of : ℕ → ℕ → Option Operation
 prune_of n bound = cond (n == 0) (Some (Prune (Below bound))) (cond (n == 1) (Some (Prune (Above bound))) (cond (n == 2) (Some (Prune (Equal bound))) None))
+
+-- the matrices of several lists
+abbrev pub matrices : Arithmetic → List Columns → List Sparse
+matrices s cs = map (matrix_of s) cs
 
 -- the lists of an operation's result on the matrices of lists
 abbrev pub HasMade : Arithmetic → Option Operation → List Columns → Columns → Type 0

@@ -9,8 +9,8 @@ use Rattle.cb_interop.specs.declared.faults.Fault.{Fault}
 use Rattle.cb_interop.specs.declared.faults.Fault.TheVariants.{Test, Mixed, Shapes}
 use Rattle.cb_interop.specs.declared.kept.Kept.{Kept}
 use Rattle.cb_interop.specs.declared.kept_values.Summary.{Summary}
-use Rattle.cb_interop.specs.declared.lists.Columns.{Columns}
-use Rattle.cb_interop.specs.Lists.{matrix_of}
+use Rattle.cb_lists.specs.declared.lists.Columns.{Columns}
+use Rattle.cb_lists.specs.Lists.{matrix_of}
 use Rattle.cb_interop.specs.Kept.{Keeps, semiring_of, semiring_in, matrix_in, AreOver}
 use Rattle.cb_interop.specs.Refusals.{Unless, IsMemory, over}
 use Rattle.cb_interop.specs.Answers.{IsAnswer}

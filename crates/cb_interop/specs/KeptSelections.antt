@@ -9,7 +9,6 @@ use Rattle.cb_matrix.specs.Sparse.{Sparse, Extent}
 use Rattle.cb_matrix.specs.Operations.{cut}
 use Rattle.cb_selections.specs.declared.regions.Diagonal.{Diagonal as Line}
 use Rattle.cb_selections.specs.declared.regions.Region.TheVariants.{Lower, Upper, On, Off}
-use Rattle.cb_selections.specs.declared.functions.Function.{Function}
 use Rattle.cb_selections.specs.declared.functions.Function.TheVariants.{Constant, Sum, LeftProduct, RightProduct, Row, Column}
 use Rattle.cb_selections.specs.Functions.{TakesValues}
 use Rattle.cb_selections.specs.Selections.{selected, applied, diagonal_of, diagonal_matrix, extracted}

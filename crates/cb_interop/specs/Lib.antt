@@ -1,11 +1,9 @@
--- Lists: matrices in compressed columns, when their lists are well formed, and what matrix they are.
 -- Refusals: the faults of calls. Answers: what a call returns.
 -- Kept: kept matrices. KeptAnswers: what an operation on them returns.
 -- Triples: matrices of triples. KeptTexts: texts of kept matrices. KeptGraphs: searches, parents, components and triangles
 -- of kept graphs. KeptSelections: operations on one kept matrix. KeptPairings: operations on two. KeptProducts: products
 -- outside a mask. KeptPanels: products in panels. KeptUpdates: one updated by another, under a mask. KeptDegrees: how
 -- many entries rows and columns have.
-pub mod Lists
 pub mod Refusals
 pub mod Answers
 pub mod Kept

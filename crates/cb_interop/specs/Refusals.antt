@@ -7,10 +7,10 @@ use Rattle.cb_operations.specs.declared.operations.Operation.{Operation}
 use Rattle.cb_operations.specs.OperationAnswers.{Agree}
 use Rattle.cb_market_lines.specs.declared.ReadFault.{ReadFault}
 use Rattle.cb_market_lines.specs.Faults.{first_fault}
-use Rattle.cb_interop.specs.declared.lists.Columns.{Columns}
+use Rattle.cb_lists.specs.declared.lists.Columns.{Columns}
 use Rattle.cb_interop.specs.declared.faults.Fault.{Fault}
 use Rattle.cb_interop.specs.declared.faults.Fault.TheVariants.{Semiring, Grid, Test, Form, TooLarge, Lengths, Order, Place, Value, Shapes, NotSquare, Source, Text, Memory, Mixed}
-use Rattle.cb_interop.specs.Lists.{shape_of, HasForm, Fits, HaveLengths, AreOrdered, AreInside, AreValues}
+use Rattle.cb_lists.specs.Lists.{shape_of, HasForm, Fits, HaveLengths, AreOrdered, AreInside, AreValues}
 
 -- the number of a fault
 abbrev pub code_of : Fault → ℕ

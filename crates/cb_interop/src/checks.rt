@@ -2,11 +2,11 @@
 ghost use Rattle.std.specs.Prelude.{◌≡◌, ◌≤◌, ◌<◌, length, map, All, Some, IfSome, IfNone, IfOk, IfErr};
 ghost use Rattle.cb_operations.specs.OperationAnswers.{operand_count_of, Agree};
 ghost use Rattle.cb_interop.specs.declared.faults.Fault.TheVariants as fault_is;
-ghost use Rattle.cb_interop.specs.Lists.{shape_of, Fits, AreLists};
-ghost use Rattle.cb_interop.specs.Refusals.{IsSide, each_faults, operand_faults, faults_of, graph_faults};
+ghost use Rattle.cb_lists.specs.Lists.{shape_of, Fits, AreLists};
+ghost use Rattle.cb_interop.specs.Refusals.{IsSide, matrix_faults, each_faults, operand_faults, faults_of, graph_faults};
 
 use crate::faults::Fault;
-use crate::lists::Columns;
+use cb_lists::Columns;
 use cb_matrix::Shape;
 use cb_operations::Operation;
 use cb_semirings::Semiring;
@@ -22,13 +22,41 @@ fn check_side(side: u32) -> Result<(), Fault>
     Ok(())
 }
 
+/// Checks that lists are those of a matrix over the semiring, or returns the first fault. Costs a walk over the stored
+/// columns and the entries.
+#[tactic(auto, unfolding(crate::specs::Refusals::matrix_faults))]
+pub(crate) fn check_lists<S: Semiring>(lists: &Columns) -> Result<(), Fault>
+    ensures ok { IfOk result (λ _. AreLists S.arithmetic lists.now) }
+    ensures fault { IfErr result (matrix_faults S.arithmetic lists.now (λ _. ⊥)) }
+{
+    if !lists.has_form() {
+        return Err(Fault::Form);
+    }
+    if !lists.fits() {
+        return Err(Fault::TooLarge);
+    }
+    if !lists.have_lengths() {
+        return Err(Fault::Lengths);
+    }
+    if !lists.are_ordered() {
+        return Err(Fault::Order);
+    }
+    if !lists.are_inside() {
+        return Err(Fault::Place);
+    }
+    if !lists.are_values::<S>() {
+        return Err(Fault::Value);
+    }
+    Ok(())
+}
+
 /// Refuses the first matrix that isn't well formed.
 fn check_each<S: Semiring>(operands: &[Columns]) -> Result<(), Fault>
     ensures lists { IfOk result (λ _. All (AreLists S.arithmetic) operands.now) }
     ensures fault { IfErr result (each_faults S.arithmetic operands.now (λ _. ⊥)) }
 {
     for columns in operands {
-        columns.check::<S>()?;
+        check_lists::<S>(columns)?;
     }
     Ok(())
 }
@@ -92,7 +120,7 @@ pub(crate) fn check_graph<S: Semiring>(side: u32, graph: &Columns, source: u32) 
     ensures fault { IfErr result (graph_faults S.arithmetic side graph.now source) }
 {
     check_side(side)?;
-    graph.check::<S>()?;
+    check_lists::<S>(graph)?;
     if graph.nrows != graph.ncols {
         return Err(Fault::NotSquare);
     }

@@ -1,17 +1,16 @@
 //! Kept matrices from lists, and lists of a kept matrix.
-ghost use Rattle.cb_interop.specs.Lists.{HasLists};
+ghost use Rattle.cb_lists.specs.Lists.{HasLists};
 ghost use Rattle.cb_interop.specs.Refusals.{IsMemory, text_faults};
 ghost use Rattle.cb_interop.specs.Answers.{IsAnswer};
 ghost use Rattle.cb_interop.specs.Kept.{matrix_in};
 ghost use Rattle.cb_interop.specs.KeptAnswers.{IsKeptAnswerOver, IsKeptOf};
 
+use crate::checks::check_lists;
 use crate::faults::Fault;
-use crate::incoming::block_of;
 use crate::keeping::Keep;
 use crate::kept::{Kept, of_block};
-use crate::lists::Columns;
-use crate::outgoing::block_lists;
 use cb_dcsc::Block;
+use cb_lists::{Columns, block_lists, block_of};
 use cb_semirings::{Semiring, SemiringName, over_semiring};
 use std::alloc::Global;
 
@@ -19,7 +18,7 @@ use std::alloc::Global;
 fn keep_over<S: Keep>(alloc: Global, a: &Columns) -> Result<Kept, Fault>
     ensures { IsAnswer (text_faults S.arithmetic a.now) (IsKeptOf S.arithmetic S.name a.now) result }
 {
-    a.check::<S>()?;
+    check_lists::<S>(a)?;
     let mut block = block_of::<S>(alloc, a)?;
     Ok(S::keep(alloc, &mut block))
 }
@@ -35,7 +34,7 @@ pub fn keep_lists(alloc: Global, semiring: u32, a: &Columns) -> Result<Kept, Fau
 }
 
 /// A copy of the lists of a block.
-fn copied_lists<S: Semiring>(alloc: Global, block: &Block<S>) -> Result<Columns, Fault>
+fn copied_lists<S: Semiring>(alloc: Global, block: &Block<S>) -> Result<Columns<'static>, Fault>
     ensures { IsAnswer IsMemory (HasLists block.now) result }
 {
     let copy = block.try_clone()?;
@@ -44,7 +43,7 @@ fn copied_lists<S: Semiring>(alloc: Global, block: &Block<S>) -> Result<Columns,
 
 /// Returns a copy of the lists of a kept matrix, which belongs to the caller.
 #[tactic(auto, unfolding(crate::specs::Kept::semiring_of, crate::specs::Kept::matrix_in))]
-pub fn lists_of(alloc: Global, kept: &Kept) -> Result<Columns, Fault>
+pub fn lists_of(alloc: Global, kept: &Kept) -> Result<Columns<'static>, Fault>
     ensures { IsAnswer IsMemory (HasLists (matrix_in kept.now)) result }
 {
     of_block!(kept, block => copied_lists(alloc, block))

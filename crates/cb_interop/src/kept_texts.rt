@@ -11,8 +11,8 @@ use crate::faults::Fault;
 use crate::keeping::Keep;
 use crate::kept::{Kept, of_block};
 use crate::kept_lists::keep_lists;
-use crate::lists::Columns;
 use crate::texts::{Text, block_text, read_block};
+use cb_lists::Columns;
 use cb_semirings::{SemiringName, over_semiring};
 use std::alloc::Global;
 

@@ -1,7 +1,7 @@
 //! Sparse matrices for programs in other languages: as lists in compressed columns, or as kept matrices, each over one of
 //! the semirings.
 //!
-//! A call takes matrices as [`Columns`], whose lists it reads and neither changes nor keeps, or as [`Kept`] matrices, whose
+//! A call takes matrices as [`Columns`](cb_lists::Columns), whose lists it reads and neither changes nor keeps, or as [`Kept`] matrices, whose
 //! blocks it reads where they are. It returns its result or the first [`Fault`]. It looks for all faults before it takes
 //! memory, except for those of a text, which it finds while it reads.
 //!
@@ -33,7 +33,6 @@ mod kept_texts;
 mod kept_updates;
 mod kept_values;
 mod kept_walks;
-mod lists;
 mod outgoing;
 mod pairings;
 mod requests;
@@ -59,7 +58,6 @@ pub use kept_texts::{read_kept, text_of, text_of_lists};
 pub use kept_updates::{kept_update, write_back_of};
 pub use kept_values::{Summary, summary_of, value_at};
 pub use kept_walks::kept_numbers;
-pub use lists::Columns;
 pub use pairings::Pairing;
 pub use requests::{answer, prune_of};
 pub use selections::{Selection, function_of, region_of};

@@ -2,16 +2,15 @@
 //! of that block are the result.
 ghost use Rattle.std.specs.Prelude.{◌≡◌, length, map, All, IfSome, IfOk};
 ghost use Rattle.cb_operations.specs.OperationAnswers.{operand_count_of, Agree, answer_of, shapes_in};
-ghost use Rattle.cb_interop.specs.Lists.{shape_of, matrices, AreLists};
+ghost use Rattle.cb_lists.specs.Lists.{shape_of, AreLists};
 ghost use Rattle.cb_interop.specs.Refusals.{faults_of};
-ghost use Rattle.cb_interop.specs.Answers.{prune_of, HasMade, IsAnswer, IsAnswerOver};
+ghost use Rattle.cb_interop.specs.Answers.{matrices, prune_of, HasMade, IsAnswer, IsAnswerOver};
 
 use crate::checks::check;
 use crate::faults::Fault;
 use crate::incoming::blocks_of;
-use crate::lists::Columns;
-use crate::outgoing::block_lists;
 use cb_dcsc::Block;
+use cb_lists::{Columns, block_lists};
 use cb_matrix::Test;
 use cb_operations::Operation;
 use cb_semirings::{Semiring, SemiringName, over_semiring};
@@ -71,7 +70,7 @@ fn answer_over<S: Semiring>(
     side: u32,
     operation: Option<Operation>,
     operands: &[Columns],
-) -> Result<Columns, Fault>
+) -> Result<Columns<'static>, Fault>
     requires count { IfSome operation (λ o. length operands.now ≡ operand_count_of o) }
     ensures { IsAnswer (faults_of S.arithmetic side operation operands.now) (HasMade S.arithmetic operation operands.now) result }
 {
@@ -88,7 +87,7 @@ pub fn answer(
     side: u32,
     operation: Option<Operation>,
     operands: &[Columns],
-) -> Result<Columns, Fault>
+) -> Result<Columns<'static>, Fault>
     requires count { IfSome operation (λ o. length operands.now ≡ operand_count_of o) }
     ensures { IsAnswerOver semiring (λ s. faults_of s side operation operands.now) (λ s. HasMade s operation operands.now) result }
 {

@@ -8,9 +8,8 @@ ghost use Rattle.cb_interop.specs.Refusals.{IsMemory, first_over, read_faults};
 ghost use Rattle.cb_interop.specs.Answers.{IsAnswer, IsAnswerOver, IsRead, IsFaultLine};
 
 use crate::faults::Fault;
-use crate::lists::Columns;
-use crate::outgoing::block_lists;
 use cb_dcsc::Block;
+use cb_lists::{Columns, block_lists};
 use cb_market::{Kind, read};
 use cb_market_pages::text;
 use cb_semirings::{Semiring, SemiringName, over_semiring};
@@ -55,7 +54,11 @@ pub(crate) fn read_block<S: Semiring>(
 }
 
 /// The lists of the matrix of a text, over a semiring.
-fn read_over<S: Semiring>(alloc: Global, text: &[u8], line: &mut u64) -> Result<Columns, Fault>
+fn read_over<S: Semiring>(
+    alloc: Global,
+    text: &[u8],
+    line: &mut u64,
+) -> Result<Columns<'static>, Fault>
     ensures answer { IsAnswer (read_faults S.arithmetic text.now) (IsRead S.arithmetic text.now) result }
     ensures line { IsFaultLine (first_fault S.arithmetic text.now) result line.old line.new }
 {
@@ -72,7 +75,7 @@ pub fn read_lists(
     semiring: u32,
     text: &[u8],
     line: &mut u64,
-) -> Result<Columns, Fault>
+) -> Result<Columns<'static>, Fault>
     ensures answer { IsAnswerOver semiring (λ s. read_faults s text.now) (λ s. IsRead s text.now) result }
     ensures line { IsFaultLine (first_over (numbered semiring) text.now) result line.old line.new }
 {

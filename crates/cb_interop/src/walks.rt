@@ -1,14 +1,13 @@
 //! Levels or distances in a graph that is passed as lists.
 ghost use Rattle.std.specs.Prelude.{◌≡◌, ◌<◌, IfOk};
-ghost use Rattle.cb_interop.specs.Lists.{AreLists};
+ghost use Rattle.cb_lists.specs.Lists.{AreLists};
 ghost use Rattle.cb_interop.specs.Refusals.{graph_faults};
 ghost use Rattle.cb_interop.specs.Answers.{HasNumbers, IsAnswer};
 
 use crate::checks::check_graph;
 use crate::faults::Fault;
-use crate::incoming::block_of;
-use crate::lists::Columns;
 use crate::outgoing::matrix_lists;
+use cb_lists::{Columns, block_of};
 use cb_searches::Walks;
 use std::alloc::{AllocError, Global};
 
@@ -17,7 +16,7 @@ fn number_lists<S: Walks>(
     alloc: Global,
     graph: &Columns,
     source: u32,
-) -> Result<Columns, AllocError>
+) -> Result<Columns<'static>, AllocError>
     requires lists { AreLists S.arithmetic graph.now }
     requires square { graph.now.nrows ≡ graph.now.ncols }
     requires source { source < graph.now.nrows }
@@ -36,7 +35,7 @@ pub fn numbers<S: Walks>(
     side: u32,
     graph: &Columns,
     source: u32,
-) -> Result<Columns, Fault>
+) -> Result<Columns<'static>, Fault>
     ensures { IsAnswer (graph_faults S.arithmetic side graph.now source) (HasNumbers S.arithmetic S.are graph.now source) result }
 {
     check_graph::<S>(side, graph, source)?;

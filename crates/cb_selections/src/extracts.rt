@@ -2,7 +2,7 @@
 //!
 //! Columns are found one by one. Rows are the columns of the transpose; but where their numbers ascend, their entries stay in
 //! order, so each entry's row is looked up instead, in a table with a place for each row of the block.
-ghost use Rattle.std.specs.Prelude.{◌≡◌, ◌≢◌, ℕ, ◌↔◌, ◌<◌, ◌≤◌, IsTrue, length, slice_index, All, AllPairs, IfOk, IfSome, IfNone, OnOk};
+ghost use Rattle.std.specs.Prelude.{◌≡◌, ◌≢◌, ℕ, ◌<◌, ◌≤◌, IsTrue, length, slice_index, All, AllPairs, IfOk, IfSome, IfNone, OnOk};
 ghost use Rattle.cb_matrix.specs.Sparse.{IsMatrix};
 ghost use Rattle.cb_matrix.specs.Values.{empty_matrix};
 ghost use Rattle.cb_selections.specs.Selections.{extracted, rows_by, columns_by};
@@ -10,6 +10,7 @@ ghost use Rattle.cb_selections.specs.ListedRows.{ArePlaces, IsListed};
 
 use crate::shape_of;
 use cb_dcsc::Block;
+use cb_lists::ascends;
 use cb_matrix::LIMIT;
 use cb_reshape::transpose;
 use cb_semirings::Semiring;
@@ -82,18 +83,6 @@ fn counts_up(numbers: &[u32]) -> bool
 {
     for n in 0..numbers.len() {
         if numbers[n] as usize != n {
-            return false;
-        }
-    }
-    true
-}
-
-/// Whether numbers ascend strictly.
-pub fn ascends(numbers: &[u32]) -> bool
-    ensures { IsTrue result ↔ AllPairs (λ i j. i < j) numbers.now }
-{
-    for n in 1..numbers.len() {
-        if numbers[n] <= numbers[n - 1] {
             return false;
         }
     }

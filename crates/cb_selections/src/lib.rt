@@ -37,7 +37,7 @@ use cb_dcsc::Block;
 use cb_matrix::{LIMIT, Shape};
 use cb_semirings::Semiring;
 pub use diagonals::{diagonal, diagonal_matrix};
-pub use extracts::{ascends, extract, extract_columns, extract_rows};
+pub use extracts::{extract, extract_columns, extract_rows};
 pub use functions::Function;
 pub use kronecker_products::kronecker;
 pub use powers::power;

@@ -3,13 +3,13 @@ use Rattle.std.specs.Prelude.{All, IfErr}
 use Rattle.std.proofs.lemmas.List.{take_all}
 use Rattle.std.proofs.lemmas.List.Elements.{All-more}
 use Rattle.std.proofs.lemmas.Result.{IfErr-weaker}
-use Rattle.cb_interop.specs.Lists.{AreLists}
+use Rattle.cb_lists.specs.Lists.{AreLists}
 use Rattle.cb_interop.specs.Refusals.{matrix_faults, each_faults}
 use Rattle.cb_interop.proofs.Firsts.{blank, fault_at}
 use Rattle.cb_interop.proofs.checks.check_each.Goals as goal
 
-pub returns-in_err-check-clause-fault : goal.returns-in_err-check-clause-fault
-returns-in_err-check-clause-fault g c =
+pub returns-in_err-check_lists-clause-fault : goal.returns-in_err-check_lists-clause-fault
+returns-in_err-check_lists-clause-fault g c =
     let s = g.S.Semiring.arithmetic in
     let cs = c.args.operands.now in
     let n = c.loop-columns.columns-index in
@@ -18,7 +18,7 @@ returns-in_err-check-clause-fault g c =
 
 pub loop-columns-preserved : goal.loop-columns-preserved
 loop-columns-preserved g c =
-    All-more (AreLists g.S.Semiring.arithmetic) c.args.operands.now c.loop-columns.columns-index blank c.loop-columns-test.true c.loop-columns.invariant c.in_ok-check.ensures.ok
+    All-more (AreLists g.S.Semiring.arithmetic) c.args.operands.now c.loop-columns.columns-index blank c.loop-columns-test.true c.loop-columns.invariant c.in_ok-check_lists.ensures.ok
 
 pub returns-clause-lists : goal.returns-clause-lists
 returns-clause-lists g c =

@@ -1,6 +1,6 @@
 use Rattle.std.proofs.Common.{take}
 use Rattle.std.specs.Prelude.{All}
-use Rattle.cb_interop.specs.Lists.{AreLists}
+use Rattle.cb_lists.specs.Lists.{AreLists}
 use Rattle.cb_interop.proofs.checks.check_each.Given as goal
 
 -- the matrices so far are well formed

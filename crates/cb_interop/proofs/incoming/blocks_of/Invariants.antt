@@ -1,5 +1,5 @@
 use Rattle.std.proofs.Common.{◌≡◌, take}
-use Rattle.cb_interop.specs.Lists.{matrices}
+use Rattle.cb_interop.specs.Answers.{matrices}
 use Rattle.cb_interop.proofs.incoming.blocks_of.Given as goal
 
 -- the blocks of the matrices so far

@@ -5,8 +5,8 @@ use Rattle.cb_interop.specs.Refusals.{matrix_faults, text_faults}
 use Rattle.cb_interop.proofs.Firsts.{of_text, none_of_text}
 use Rattle.cb_interop.proofs.kept_lists.keep_over.Goals as goal
 
-pub returns-in_err-check : goal.returns-in_err-check
-returns-in_err-check g c =
+pub returns-in_err-check_lists : goal.returns-in_err-check_lists
+returns-in_err-check_lists g c =
     let s = g.S.Semiring.arithmetic in
     let a = c.args.a.now in
     let first : IfErr c.from_residual.result (matrix_faults s a (λ _. ⊥)) = search rules in
@@ -15,10 +15,10 @@ returns-in_err-check g c =
 
 pub returns-in_err-block : goal.returns-in_err-block
 returns-in_err-block g c =
-    let memory = (none_of_text g.S.Semiring.arithmetic c.args.a.now c.in_ok-check.ensures.ok).memory in
+    let memory = (none_of_text g.S.Semiring.arithmetic c.args.a.now c.in_ok-check_lists.ensures.ok).memory in
     search rules
 
 pub returns : goal.returns
 returns g c =
-    let none = none_of_text g.S.Semiring.arithmetic c.args.a.now c.in_ok-check.ensures.ok in
+    let none = none_of_text g.S.Semiring.arithmetic c.args.a.now c.in_ok-check_lists.ensures.ok in
     search rules

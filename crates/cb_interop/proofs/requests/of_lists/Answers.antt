@@ -1,6 +1,6 @@
 use Rattle.std.proofs.Common.{◌∙◌, sym, ap, subst}
 use Rattle.cb_operations.specs.OperationAnswers.{Agree, shapes_in}
-use Rattle.cb_interop.proofs.WellFormed.{shapes_are}
+use Rattle.cb_interop.proofs.OperandShapes.{shapes_are}
 use Rattle.cb_interop.proofs.requests.of_lists.Goals as goal
 
 pub of_blocks-requires-clause-agree : goal.of_blocks-requires-clause-agree
