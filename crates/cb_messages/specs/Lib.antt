@@ -1,0 +1,2 @@
+-- Messages: letters as a head and lists.
+pub mod Messages
