@@ -10,6 +10,7 @@ ghost use Rattle.cb_cli.specs.JobEnds.{IsOperationEnd, IsRanksEnd};
 
 use crate::ranks::{Ranks, job_fault, ranks_of};
 use crate::trace_lines::lines_of;
+use cb_bases::Based;
 use cb_engines::Outcome;
 use cb_job_inputs::inputs::{read_one, read_three, read_two};
 use cb_job_output::output::put_text_and_lines;
@@ -21,14 +22,14 @@ use cb_outcomes::faults::JobFault;
 use cb_outcomes::sinks::Sink;
 use cb_outcomes::texts::Text;
 use cb_run::run;
-use cb_semirings::{Semiring, SemiringName, over_semiring};
+use cb_semirings::{SemiringName, over_semiring};
 use cb_words::Job;
 use std::alloc::Global;
 use std::sync::Wait;
 use std::thread::Threads;
 
 /// Reads the operands of an operation into the blocks of the ranks' grid.
-fn read_operands<S: Semiring + Send + Sync, R: Threads + Sync>(
+fn read_operands<S: Based + Send + Sync, R: Threads + Sync>(
     rt: &R,
     alloc: Global,
     ranks: &Ranks<'_>,
@@ -56,7 +57,7 @@ fn read_operands<S: Semiring + Send + Sync, R: Threads + Sync>(
 }
 
 /// Reads the operands of an operation, and computes it by ranks.
-fn outcome_of<S: Semiring + Send + Sync, R: Threads + Wait + Sync>(
+fn outcome_of<S: Based + Send + Sync, R: Threads + Wait + Sync>(
     rt: &R,
     alloc: Global,
     ranks: &Ranks<'_>,
@@ -76,7 +77,7 @@ fn outcome_of<S: Semiring + Send + Sync, R: Threads + Wait + Sync>(
 }
 
 /// Writes the result of an operation over a semiring, and then the lines of the trace if the engine keeps one.
-fn put_outcome<S: Semiring + Send + Sync, R: Threads + Wait + Sync, K: Sink>(
+fn put_outcome<S: Based + Send + Sync, R: Threads + Wait + Sync, K: Sink>(
     rt: &R,
     alloc: Global,
     ranks: &Ranks<'_>,
@@ -99,7 +100,7 @@ fn put_outcome<S: Semiring + Send + Sync, R: Threads + Wait + Sync, K: Sink>(
 }
 
 /// Writes the result of an operation over a semiring, and then the lines of the trace, by the ranks of a job or without any.
-fn put_operation_by<S: Semiring + Send + Sync, R: Threads + Wait + Sync, K: Sink>(
+fn put_operation_by<S: Based + Send + Sync, R: Threads + Wait + Sync, K: Sink>(
     rt: &R,
     alloc: Global,
     job: &Job,

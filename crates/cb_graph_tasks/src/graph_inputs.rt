@@ -2,18 +2,19 @@
 ghost use Rattle.std.specs.Prelude.{◌≡◌, ◌≢◌, vec_len, IfOk, IfErr};
 ghost use Rattle.cb_graph_tasks.specs.GraphAnswers.{IsSquareFault, IsSquareGraph, IsWalkFault, IsWalkGraph};
 
+use cb_bases::Based;
 use cb_dcsc::Block;
 use cb_job_inputs::inputs::read_one;
 use cb_layout::Grid;
 use cb_operations::{Refusal, check_graph};
 use cb_outcomes::faults::JobFault;
 use cb_outcomes::texts::Text;
-use cb_semirings::{OrAnd, Semiring};
+use cb_semirings::OrAnd;
 use std::alloc::Global;
 use std::thread::Threads;
 
 /// Reads the graph of a text. The source must be a vertex of it.
-pub fn graph_with_source<S: Semiring + Send + Sync, R: Threads + Sync>(
+pub fn graph_with_source<S: Based + Send + Sync, R: Threads + Sync>(
     rt: &R,
     alloc: Global,
     threads: u32,

@@ -5,6 +5,7 @@ ghost use Rattle.cb_graph_tasks.specs.InitialValues.{IsGivenFault, IsGivenOf, Is
 ghost use Rattle.cb_graph_tasks.specs.GraphEnds.{IsGivenEnd};
 
 use crate::column_output::put_column;
+use cb_bases::Based;
 use cb_dcsc::Block;
 use cb_job_inputs::inputs::read_pair;
 use cb_matrix::{Matrix, Shape};
@@ -13,7 +14,7 @@ use cb_outcomes::faults::JobFault;
 use cb_outcomes::sinks::Sink;
 use cb_outcomes::texts::Text;
 use cb_searches::{Walks, column_shape};
-use cb_semirings::{MinPlus, Semiring};
+use cb_semirings::MinPlus;
 use std::alloc::Global;
 use std::thread::Threads;
 
@@ -32,7 +33,7 @@ fn check_numbers(graph: Shape, given: Shape) -> Result<(), Refusal>
 }
 
 /// Reads a graph, and the initial values of its vertices.
-fn graph_with_numbers<S: Semiring + Send + Sync, R: Threads + Sync>(
+fn graph_with_numbers<S: Based + Send + Sync, R: Threads + Sync>(
     rt: &R,
     alloc: Global,
     threads: u32,
@@ -49,7 +50,7 @@ fn graph_with_numbers<S: Semiring + Send + Sync, R: Threads + Sync>(
 }
 
 /// Reads a graph and initial values, and computes the numbers of the vertices from these.
-fn column_given<S: Walks + Send + Sync, R: Threads + Sync>(
+fn column_given<S: Walks + Based + Send + Sync, R: Threads + Sync>(
     rt: &R,
     alloc: Global,
     threads: u32,
@@ -68,7 +69,7 @@ fn column_given<S: Walks + Send + Sync, R: Threads + Sync>(
 
 /// Writes the number of each vertex that can be reached from initial values, except infinite ones: levels over or-and,
 /// distances over min-plus.
-pub fn put_numbers_given<S: Walks + Send + Sync, R: Threads + Sync, K: Sink>(
+pub fn put_numbers_given<S: Walks + Based + Send + Sync, R: Threads + Sync, K: Sink>(
     rt: &R,
     alloc: Global,
     threads: u32,

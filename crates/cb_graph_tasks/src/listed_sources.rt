@@ -5,6 +5,7 @@ ghost use Rattle.cb_job_inputs.specs.Lists.{numbers_in};
 ghost use Rattle.cb_graph_tasks.specs.ListedSources.{AreSources, AreSourcesRefused, IsGraphWithSources, IsSourcesFault, IsWalksFault, IsWalksOf};
 ghost use Rattle.cb_graph_tasks.specs.GraphEnds.{IsWalksEnd};
 
+use cb_bases::Based;
 use cb_dcsc::Block;
 use cb_job_inputs::inputs::read_pair;
 use cb_job_inputs::lists::{is_full, listed};
@@ -16,7 +17,7 @@ use cb_outcomes::faults::{JobFault, SelectionRefusal};
 use cb_outcomes::sinks::Sink;
 use cb_outcomes::texts::Text;
 use cb_searches::Walks;
-use cb_semirings::{MinPlus, PlusTimes, Semiring};
+use cb_semirings::{MinPlus, PlusTimes};
 use std::alloc::{AllocError, Global};
 use std::thread::Threads;
 
@@ -51,7 +52,7 @@ fn sources_of(alloc: Global, shape: Shape, list: &Block<PlusTimes>) -> Result<Ve
 }
 
 /// Reads a graph, and a list of its vertices.
-fn graph_with_sources<S: Semiring + Send + Sync, R: Threads + Sync>(
+fn graph_with_sources<S: Based + Send + Sync, R: Threads + Sync>(
     rt: &R,
     alloc: Global,
     threads: u32,
@@ -79,7 +80,7 @@ fn panelled(alloc: Global, matrix: Matrix<MinPlus>) -> Result<PanelledMatrix<Min
 }
 
 /// Reads a graph and sources, and computes the numbers of the vertices from each source, a column for each.
-fn columns_from<S: Walks + Send + Sync, R: Threads + Sync>(
+fn columns_from<S: Walks + Based + Send + Sync, R: Threads + Sync>(
     rt: &R,
     alloc: Global,
     threads: u32,
@@ -97,7 +98,7 @@ fn columns_from<S: Walks + Send + Sync, R: Threads + Sync>(
 }
 
 /// Writes the matrix of the numbers from the listed sources, a column for each: levels over or-and, distances over min-plus.
-pub fn put_numbers_from<S: Walks + Send + Sync, R: Threads + Sync, K: Sink>(
+pub fn put_numbers_from<S: Walks + Based + Send + Sync, R: Threads + Sync, K: Sink>(
     rt: &R,
     alloc: Global,
     threads: u32,

@@ -4,6 +4,7 @@ ghost use Rattle.cb_graph_tasks.specs.GraphEnds.{IsWalkEnd};
 
 use crate::column_output::put_column;
 use crate::graph_inputs::graph_with_source;
+use cb_bases::Based;
 use cb_outcomes::faults::JobFault;
 use cb_outcomes::sinks::Sink;
 use cb_outcomes::texts::Text;
@@ -13,7 +14,7 @@ use std::thread::Threads;
 
 /// Writes the number of each vertex that can be reached from a source, except infinite ones: levels over or-and, distances
 /// over min-plus.
-pub fn put_numbers<S: Walks + Send + Sync, R: Threads + Sync, K: Sink>(
+pub fn put_numbers<S: Walks + Based + Send + Sync, R: Threads + Sync, K: Sink>(
     rt: &R,
     alloc: Global,
     threads: u32,

@@ -2,6 +2,8 @@
 -- read. ReadFaults: the first text that isn't a matrix.
 pub mod OperandLemmas
 pub mod ReadFaults
--- For this crate alone. CutTexts: texts that are cut where lines end. ReadPieces: what is read of the pieces.
+-- For this crate alone. CutTexts: texts that are cut where lines end. ReadPieces: what is read of the pieces. BaseTexts: texts
+-- that are read over the base of a semiring.
 mod CutTexts
 mod ReadPieces
+mod BaseTexts

@@ -1,8 +1,9 @@
 -- Texts that are read as matrices, and the first that is none.
-use Rattle.std.specs.Prelude.{ℕ, ◌≡◌, ◌<◌, List, length, zero, suc}
+use Rattle.std.specs.Prelude.{ℕ, ◌≡◌, ◌<◌, List, length, zero, suc, Result, Ok, Err}
 use Rattle.cb_semirings.specs.Arithmetic.{Arithmetic}
 use Rattle.cb_semirings.specs.Tables.{plus_times}
 use Rattle.cb_matrix.specs.Sparse.{Sparse}
+use Rattle.cb_layout.specs.Distributed.{Distributed}
 use Rattle.cb_market_lines.specs.Faults as market
 use Rattle.cb_market_lines.specs.Reads.{Reads}
 use Rattle.cb_operations.specs.OperationAnswers.{matrix_at}
@@ -35,6 +36,11 @@ arithmetic_at s t (suc i) = t
 abbrev pub IsTextFault : Arithmetic → ℕ → List ℕ → JobFault → Type 0
 IsTextFault s place text (Read which fault) = (which ≡ place) × market.IsAnswer (market.first_fault s text) fault
 IsTextFault s place text _ = ⊥
+
+-- the text at a position was read as a matrix over a grid of this side, or not, for this reason
+abbrev pub IsTextRead : Arithmetic → ℕ → ℕ → List ℕ → Result Distributed JobFault → Type 0
+IsTextRead s side place text (Ok m) = Reads s text m.matrix × (m.side ≡ side)
+IsTextRead s side place text (Err fault) = IsTextFault s place text fault
 
 -- the first text that isn't a matrix, each read in its own way, with its first fault, or want of memory with no fault before it
 abbrev pub IsFirstReadFault : (ℕ → Arithmetic) → List (List ℕ) → JobFault → Type 0

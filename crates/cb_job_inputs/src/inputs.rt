@@ -1,15 +1,17 @@
 //! Reads the texts of a job. Each text is read in pieces by `threads` threads, in at most two for each, and dropped once it is
 //! read. Two long texts are read at once, each in at most one piece for each thread, or for each part in which it was loaded. So
 //! while one is joined the other's pieces have the processors.
-ghost use Rattle.std.specs.Prelude.{◌≡◌, ◌≤◌, ◌∷◌, [], drop, vec_len, IfOk, IfErr, OnOk};
+ghost use Rattle.std.specs.Prelude.{◌≡◌, ℕ, ◌≤◌, List, ◌∷◌, [], drop, vec_len, IfOk, IfErr, OnOk};
 ghost use Rattle.std.specs.Thread.{IsSync};
 ghost use Rattle.cb_market_lines.specs.Reads.{Reads};
-ghost use Rattle.cb_job_inputs.specs.Inputs.{AreMatrices, IsFirstReadFault, IsReadFault, IsTextFault, arithmetic_at};
+ghost use Rattle.cb_job_inputs.specs.Inputs.{AreMatrices, IsFirstReadFault, IsReadFault, IsTextFault, IsTextRead, arithmetic_at};
 ghost use Rattle.cb_outcomes.specs.Texts.{text_at};
 
 use crate::reading::{Pieces, read_side_by_side};
+use cb_bases::Based;
 use cb_dcsc::Block;
 use cb_layout::{DistributedMatrix, Grid};
+use cb_market::{Kind, ReadFault};
 use cb_outcomes::faults::JobFault;
 use cb_outcomes::texts::Text;
 use cb_semirings::Semiring;
@@ -21,7 +23,7 @@ const LEAST_BYTES: usize = 262_144;
 
 /// Reads the text at position `which` into the blocks of a grid. It is cut in two pieces for each thread, so that a thread which
 /// gets no processor for a while leaves more to the others.
-pub fn read_text<S: Semiring + Send + Sync, R: Threads + Sync>(
+pub fn read_text<S: Based + Send + Sync, R: Threads + Sync>(
     rt: &R,
     alloc: Global,
     grid: &Grid,
@@ -38,10 +40,34 @@ pub fn read_text<S: Semiring + Send + Sync, R: Threads + Sync>(
     } else {
         1
     };
-    read_in_at_most(rt, alloc, grid, most, threads, which, text)
+    let read = read_in_at_most::<S::Base, R>(rt, alloc, grid, most, threads, which, text);
+    over::<S>(alloc, which, read)
 }
 
-/// The same, in at most this many pieces.
+/// What was read of the text at position `which` over the base of a semiring, over the semiring. No entry is copied: it takes
+/// memory for one block header per rank. If that is refused, the fault is at the first line.
+fn over<S: Based>(
+    alloc: Global,
+    which: usize,
+    read: Result<DistributedMatrix<S::Base>, JobFault>,
+) -> Result<DistributedMatrix<S>, JobFault>
+    ensures { (side : ℕ) (text : List ℕ) → IsTextRead S.Base.arithmetic side which text read → IsTextRead S.arithmetic side which text result }
+{
+    let matrix = read?;
+    let _shape = matrix.shape();
+    match matrix.recast(alloc) {
+        Ok(matrix) => Ok(matrix),
+        Err(_) => Err(JobFault::Read {
+            which,
+            fault: ReadFault {
+                line: 1,
+                kind: Kind::Memory,
+            },
+        }),
+    }
+}
+
+/// Reads the text at position `which` into the blocks of a grid, in at most this many pieces.
 fn read_in_at_most<S: Semiring + Send + Sync, R: Threads + Sync>(
     rt: &R,
     alloc: Global,
@@ -51,9 +77,7 @@ fn read_in_at_most<S: Semiring + Send + Sync, R: Threads + Sync>(
     which: usize,
     text: Text,
 ) -> Result<DistributedMatrix<S>, JobFault>
-    ensures ok { IfOk result (λ m. Reads S.arithmetic text m.matrix) }
-    ensures side { IfOk result (λ m. m.side ≡ grid.now.side) }
-    ensures fault { IfErr result (IsTextFault S.arithmetic which text) }
+    ensures { IsTextRead S.arithmetic grid.now.side which text result }
 {
     let pieces = Pieces {
         most,
@@ -67,7 +91,7 @@ fn read_in_at_most<S: Semiring + Send + Sync, R: Threads + Sync>(
 }
 
 /// Reads the only text into the blocks of a grid.
-pub fn read_one<S: Semiring + Send + Sync, R: Threads + Sync>(
+pub fn read_one<S: Based + Send + Sync, R: Threads + Sync>(
     rt: &R,
     alloc: Global,
     grid: &Grid,
@@ -85,7 +109,7 @@ pub fn read_one<S: Semiring + Send + Sync, R: Threads + Sync>(
 }
 
 /// Reads the first two texts of a list, each over its own semiring, into the blocks of a grid. Both are taken out.
-fn read_both<S: Semiring + Send + Sync, T: Semiring + Send + Sync, R: Threads + Sync>(
+fn read_both<S: Based + Send + Sync, T: Based + Send + Sync, R: Threads + Sync>(
     rt: &R,
     alloc: Global,
     grid: &Grid,
@@ -117,7 +141,7 @@ fn is_long(text: &Text) -> bool {
 }
 
 /// Reads the first two texts of a job, the second in a thread of its own. Each is read in pieces, by half of the threads.
-fn read_at_once<S: Semiring + Send + Sync, T: Semiring + Send + Sync, R: Threads + Sync>(
+fn read_at_once<S: Based + Send + Sync, T: Based + Send + Sync, R: Threads + Sync>(
     rt: &R,
     alloc: Global,
     grid: &Grid,
@@ -135,27 +159,44 @@ fn read_at_once<S: Semiring + Send + Sync, T: Semiring + Send + Sync, R: Threads
     ensures first_fault { IfErr result.0 (IsTextFault S.arithmetic 0 first) }
     ensures second_fault { IfErr result.1 (IsTextFault T.arithmetic 1 second) }
 {
+    let (left, right) = read_bases_at_once::<S::Base, T::Base, R>(
+        rt, alloc, grid, threads, first, second,
+    );
+    (over::<S>(alloc, 0, left), over::<T>(alloc, 1, right))
+}
+
+/// The same over the bases of their semirings.
+fn read_bases_at_once<S: Semiring + Send + Sync, T: Semiring + Send + Sync, R: Threads + Sync>(
+    rt: &R,
+    alloc: Global,
+    grid: &Grid,
+    threads: u32,
+    first: Text,
+    second: Text,
+) -> (
+    Result<DistributedMatrix<S>, JobFault>,
+    Result<DistributedMatrix<T>, JobFault>,
+)
+    ensures first { IsTextRead S.arithmetic grid.now.side 0 first result.0 }
+    ensures second { IsTextRead T.arithmetic grid.now.side 1 second result.1 }
+{
     let half = threads.div_ceil(2);
     let (right, left) = join(
         rt,
         || -> Result<DistributedMatrix<T>, JobFault>
             requires { IsSync R.row }
-            ensures ok { IfOk result (λ m. Reads T.arithmetic second m.matrix) }
-            ensures side { IfOk result (λ m. m.side ≡ grid.entry.now.side) }
-            ensures fault { IfErr result (IsTextFault T.arithmetic 1 second) }
+            ensures { IsTextRead T.arithmetic grid.entry.now.side 1 second result }
         { read_in_at_most::<T, R>(rt, alloc, grid, threads, half, 1, second) },
         || -> Result<DistributedMatrix<S>, JobFault>
             requires { IsSync R.row }
-            ensures ok { IfOk result (λ m. Reads S.arithmetic first m.matrix) }
-            ensures side { IfOk result (λ m. m.side ≡ grid.entry.now.side) }
-            ensures fault { IfErr result (IsTextFault S.arithmetic 0 first) }
+            ensures { IsTextRead S.arithmetic grid.entry.now.side 0 first result }
         { read_in_at_most::<S, R>(rt, alloc, grid, threads, half, 0, first) },
     );
     (left, right)
 }
 
 /// Reads two texts into the blocks of a grid.
-pub fn read_two<S: Semiring + Send + Sync, R: Threads + Sync>(
+pub fn read_two<S: Based + Send + Sync, R: Threads + Sync>(
     rt: &R,
     alloc: Global,
     grid: &Grid,
@@ -171,7 +212,7 @@ pub fn read_two<S: Semiring + Send + Sync, R: Threads + Sync>(
 }
 
 /// Reads three texts into the blocks of a grid, the first over a semiring of its own.
-pub fn read_triple<S: Semiring + Send + Sync, T: Semiring + Send + Sync, R: Threads + Sync>(
+pub fn read_triple<S: Based + Send + Sync, T: Based + Send + Sync, R: Threads + Sync>(
     rt: &R,
     alloc: Global,
     grid: &Grid,
@@ -199,7 +240,7 @@ pub fn read_triple<S: Semiring + Send + Sync, T: Semiring + Send + Sync, R: Thre
 }
 
 /// Reads three texts into the blocks of a grid.
-pub fn read_three<S: Semiring + Send + Sync, R: Threads + Sync>(
+pub fn read_three<S: Based + Send + Sync, R: Threads + Sync>(
     rt: &R,
     alloc: Global,
     grid: &Grid,
@@ -222,7 +263,7 @@ pub fn read_three<S: Semiring + Send + Sync, R: Threads + Sync>(
 }
 
 /// Reads two texts, each over its own semiring.
-pub fn read_pair<S: Semiring + Send + Sync, T: Semiring + Send + Sync, R: Threads + Sync>(
+pub fn read_pair<S: Based + Send + Sync, T: Based + Send + Sync, R: Threads + Sync>(
     rt: &R,
     alloc: Global,
     threads: u32,

@@ -6,6 +6,7 @@ ghost use Rattle.cb_job_inputs.specs.Inputs.{AreMatrices, IsReadFault};
 ghost use Rattle.cb_operation_tasks.specs.OperationTexts.{IsEndOver, IsFaultOver, IsResultOf};
 
 use crate::alone::compute_alone;
+use cb_bases::Based;
 use cb_dcsc::Block;
 use cb_job_inputs::inputs::{read_one, read_three, read_two};
 use cb_job_output::output::put_matrix;
@@ -14,12 +15,11 @@ use cb_operations::{Operands, Operation};
 use cb_outcomes::faults::JobFault;
 use cb_outcomes::sinks::Sink;
 use cb_outcomes::texts::Text;
-use cb_semirings::Semiring;
 use std::alloc::Global;
 use std::thread::Threads;
 
 /// Reads the operands of an operation, each into one block.
-fn read_operands<S: Semiring + Send + Sync, R: Threads + Sync>(
+fn read_operands<S: Based + Send + Sync, R: Threads + Sync>(
     rt: &R,
     alloc: Global,
     threads: u32,
@@ -50,7 +50,7 @@ fn read_operands<S: Semiring + Send + Sync, R: Threads + Sync>(
 }
 
 /// Reads the operands of an operation, and computes it.
-fn result_of<S: Semiring + Send + Sync, R: Threads + Sync>(
+fn result_of<S: Based + Send + Sync, R: Threads + Sync>(
     rt: &R,
     alloc: Global,
     threads: u32,
@@ -74,7 +74,7 @@ fn result_of<S: Semiring + Send + Sync, R: Threads + Sync>(
 ///
 /// The first fault in this order is returned: a text that isn't a matrix; shapes that don't agree; want of memory; `Output`.
 /// Each text is dropped once it is read, so that its memory is free for the computation.
-pub fn put_operation<S: Semiring + Send + Sync, R: Threads + Sync, K: Sink>(
+pub fn put_operation<S: Based + Send + Sync, R: Threads + Sync, K: Sink>(
     rt: &R,
     alloc: Global,
     threads: u32,

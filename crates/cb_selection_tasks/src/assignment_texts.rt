@@ -5,6 +5,7 @@ ghost use Rattle.cb_selection_tasks.specs.Assignments.{FitsAt, IsAssignedFault, 
 ghost use Rattle.cb_selection_tasks.specs.SelectionAnswers.{IsSelectionEnd};
 ghost use Rattle.cb_words.specs.declared.tasks.SelectionTask.TheVariants as task_is;
 
+use cb_bases::Based;
 use cb_dcsc::Block;
 use cb_job_inputs::inputs::read_pair;
 use cb_job_output::output::put_matrix;
@@ -56,7 +57,7 @@ fn assigned_part<S: Semiring>(
 }
 
 /// Reads a matrix and a part, and puts the part in its place.
-fn assigned_matrix<S: Semiring + Send + Sync, R: Threads + Sync>(
+fn assigned_matrix<S: Based + Send + Sync, R: Threads + Sync>(
     rt: &R,
     alloc: Global,
     threads: u32,
@@ -73,7 +74,7 @@ fn assigned_matrix<S: Semiring + Send + Sync, R: Threads + Sync>(
 }
 
 /// Writes the matrix of a text over a semiring, with that of a second text in place of the part that begins at a corner.
-pub fn put_assigned<S: Semiring + Send + Sync, R: Threads + Sync, K: Sink>(
+pub fn put_assigned<S: Based + Send + Sync, R: Threads + Sync, K: Sink>(
     rt: &R,
     alloc: Global,
     threads: u32,

@@ -11,6 +11,7 @@ ghost use Rattle.cb_words.specs.declared.tasks.SelectionTask.TheVariants as task
 
 use crate::list_checks::{check_list, numbers_of};
 use crate::list_operands::read_with_lists;
+use cb_bases::Based;
 use cb_dcsc::Block;
 use cb_job_inputs::inputs::read_pair;
 use cb_job_inputs::lists::listed;
@@ -95,7 +96,7 @@ fn part_of<S: Semiring>(
 }
 
 /// Reads a matrix and a list, and makes the listed rows.
-fn some_rows<S: Semiring + Send + Sync, R: Threads + Sync>(
+fn some_rows<S: Based + Send + Sync, R: Threads + Sync>(
     rt: &R,
     alloc: Global,
     threads: u32,
@@ -111,7 +112,7 @@ fn some_rows<S: Semiring + Send + Sync, R: Threads + Sync>(
 }
 
 /// Reads a matrix and a list, and makes the listed columns.
-fn some_columns<S: Semiring + Send + Sync, R: Threads + Sync>(
+fn some_columns<S: Based + Send + Sync, R: Threads + Sync>(
     rt: &R,
     alloc: Global,
     threads: u32,
@@ -127,7 +128,7 @@ fn some_columns<S: Semiring + Send + Sync, R: Threads + Sync>(
 }
 
 /// Reads a matrix and two lists, and makes the listed rows and columns.
-fn some_part<S: Semiring + Send + Sync, R: Threads + Sync>(
+fn some_part<S: Based + Send + Sync, R: Threads + Sync>(
     rt: &R,
     alloc: Global,
     threads: u32,
@@ -143,7 +144,7 @@ fn some_part<S: Semiring + Send + Sync, R: Threads + Sync>(
 }
 
 /// Reads a matrix and lists, and makes the rows and columns that are listed.
-fn extract_matrix<S: Semiring + Send + Sync, R: Threads + Sync>(
+fn extract_matrix<S: Based + Send + Sync, R: Threads + Sync>(
     rt: &R,
     alloc: Global,
     threads: u32,
@@ -163,7 +164,7 @@ fn extract_matrix<S: Semiring + Send + Sync, R: Threads + Sync>(
 }
 
 /// Writes the listed rows and columns of the matrix of a text over a semiring.
-pub fn put_extract<S: Semiring + Send + Sync, R: Threads + Sync, K: Sink>(
+pub fn put_extract<S: Based + Send + Sync, R: Threads + Sync, K: Sink>(
     rt: &R,
     alloc: Global,
     threads: u32,

@@ -4,17 +4,18 @@ ghost use Rattle.cb_semirings.specs.Tables.{plus_times};
 ghost use Rattle.cb_job_inputs.specs.Inputs.{IsFirstReadFault, arithmetic_at};
 ghost use Rattle.cb_selection_tasks.specs.Extracts.{AreWithLists};
 
+use cb_bases::Based;
 use cb_dcsc::Block;
 use cb_job_inputs::inputs::read_triple;
 use cb_layout::Grid;
 use cb_outcomes::faults::JobFault;
 use cb_outcomes::texts::Text;
-use cb_semirings::{PlusTimes, Semiring};
+use cb_semirings::PlusTimes;
 use std::alloc::Global;
 use std::thread::Threads;
 
 /// Reads a matrix over a semiring, and two lists.
-pub fn read_with_lists<S: Semiring + Send + Sync, R: Threads + Sync>(
+pub fn read_with_lists<S: Based + Send + Sync, R: Threads + Sync>(
     rt: &R,
     alloc: Global,
     threads: u32,

@@ -7,10 +7,11 @@ ghost use Rattle.cb_selection_tasks.specs.SelectionAnswers.{IsSelectionEnd};
 use crate::assignment_texts::put_assigned;
 use crate::extract_texts::put_extract;
 use crate::selection_answers::{put_kronecker, put_selected};
+use cb_bases::Based;
 use cb_outcomes::faults::JobFault;
 use cb_outcomes::sinks::Sink;
 use cb_outcomes::texts::Text;
-use cb_semirings::{MaxMin, MinPlus, OrAnd, PlusTimes, Semiring, SemiringName};
+use cb_semirings::{MaxMin, MinPlus, OrAnd, PlusTimes, SemiringName};
 use cb_words::SelectionTask;
 use std::alloc::Global;
 use std::thread::Threads;
@@ -23,7 +24,7 @@ use std::thread::Threads;
 ///
 /// The first fault in this order is returned: a text that isn't a matrix; a selection that can't be made; want of memory;
 /// `Output`. Each text is dropped once it is read, so that its memory is free for the computation.
-pub fn put_selection<S: Semiring + Send + Sync, R: Threads + Sync, K: Sink>(
+pub fn put_selection<S: Based + Send + Sync, R: Threads + Sync, K: Sink>(
     rt: &R,
     alloc: Global,
     threads: u32,

@@ -6,6 +6,7 @@ ghost use Rattle.cb_selection_tasks.specs.Selected.{Fits, FitsInShape, selection
 ghost use Rattle.cb_words.specs.declared.tasks.SelectionTask.TheVariants as task_is;
 
 use crate::selection_refusals::{check_product, check_selection, function_of, region_of};
+use cb_bases::Based;
 use cb_dcsc::Block;
 use cb_job_inputs::inputs::{read_one, read_two};
 use cb_job_output::output::put_matrix;
@@ -42,7 +43,7 @@ fn selected<S: Semiring>(
 }
 
 /// Reads a text, and makes the selection from its matrix.
-fn selected_matrix<S: Semiring + Send + Sync, R: Threads + Sync>(
+fn selected_matrix<S: Based + Send + Sync, R: Threads + Sync>(
     rt: &R,
     alloc: Global,
     threads: u32,
@@ -77,7 +78,7 @@ fn kronecker_block<S: Semiring>(
 }
 
 /// Reads two texts, and computes the Kronecker product of their matrices.
-fn kronecker_matrix<S: Semiring + Send + Sync, R: Threads + Sync>(
+fn kronecker_matrix<S: Based + Send + Sync, R: Threads + Sync>(
     rt: &R,
     alloc: Global,
     threads: u32,
@@ -95,7 +96,7 @@ fn kronecker_matrix<S: Semiring + Send + Sync, R: Threads + Sync>(
 }
 
 /// Writes the selection from the matrix of a text over a semiring.
-pub fn put_selected<S: Semiring + Send + Sync, R: Threads + Sync, K: Sink>(
+pub fn put_selected<S: Based + Send + Sync, R: Threads + Sync, K: Sink>(
     rt: &R,
     alloc: Global,
     threads: u32,
@@ -112,7 +113,7 @@ pub fn put_selected<S: Semiring + Send + Sync, R: Threads + Sync, K: Sink>(
 }
 
 /// Writes the Kronecker product of the matrices of two texts over a semiring.
-pub fn put_kronecker<S: Semiring + Send + Sync, R: Threads + Sync, K: Sink>(
+pub fn put_kronecker<S: Based + Send + Sync, R: Threads + Sync, K: Sink>(
     rt: &R,
     alloc: Global,
     threads: u32,

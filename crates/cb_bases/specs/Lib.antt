@@ -1,0 +1,2 @@
+-- Bases: semirings that differ in the product alone.
+pub mod Bases
