@@ -13,9 +13,8 @@ use crate::trace_lines::lines_of;
 use cb_bases::Based;
 use cb_engines::Outcome;
 use cb_job_inputs::inputs::{read_one, read_three, read_two};
-use cb_job_output::output::put_text_and_lines;
+use cb_job_output::output::put_blocks_and_lines;
 use cb_layout::DistributedMatrix;
-use cb_market_pages::TextPages;
 use cb_operation_tasks::operation_answers::put_operation;
 use cb_operations::{Operands, Operation};
 use cb_outcomes::faults::JobFault;
@@ -93,10 +92,8 @@ fn put_outcome<S: Based + Send + Sync, R: Threads + Wait + Sync, K: Sink>(
     let Ok(lines) = lines_of(alloc, &done.trace) else {
         return Err(JobFault::Memory);
     };
-    let text = TextPages::new(&done.answer);
-    let put = put_text_and_lines(rt, alloc, ranks.threads, text, lines.as_bytes(), out);
-    done.answer.free(rt, alloc);
-    put
+    let (threads, lines) = (ranks.threads, lines.as_bytes());
+    put_blocks_and_lines(rt, alloc, threads, done.answer, lines, out)
 }
 
 /// Writes the result of an operation over a semiring, and then the lines of the trace, by the ranks of a job or without any.

@@ -1,10 +1,10 @@
 -- A text that is read over the base of a semiring says the same over the semiring: nothing in it takes a product.
-use Rattle.std.proofs.Common.{◌≡◌, ◌≢◌, ℕ, zero, suc, List, [], ◌∷◌, refl, sym, ap, ◌∙◌, subst}
-use Rattle.std.specs.Prelude.{All, Result, Ok, Err, IfOk, IfErr}
-use Rattle.cb_semirings.specs.Arithmetic.{Arithmetic, IsValue}
+use Rattle.std.proofs.Common.{◌≡◌, ℕ, zero, suc, List, [], ◌∷◌, refl, sym, ap, ◌∙◌, subst}
+use Rattle.std.specs.Prelude.{Result, Ok, Err, IfOk, IfErr}
+use Rattle.cb_semirings.specs.Arithmetic.{Arithmetic}
 use Rattle.cb_bases.specs.Bases.{IsBaseOf}
 use Rattle.cb_matrix.specs.declared.Entry.{Entry}
-use Rattle.cb_matrix.specs.Sparse.{Extent, Sparse, IsMatrix}
+use Rattle.cb_matrix.specs.Sparse.{Extent, Sparse}
 use Rattle.cb_matrix.specs.Values.{collected, matrix_of, total, values_at}
 use Rattle.cb_market_lines.specs.declared.header.Header.{Header}
 use Rattle.cb_market_lines.specs.Checks.{entry_fault, header_fault, header_of, size_of, size_fault}
@@ -102,10 +102,6 @@ module _ (s base : Arithmetic) (has : IsBaseOf s base) where
   -- and its first fault
   first_too : (text : List ℕ) → first_fault base text ≡ first_fault s text
   first_too text = first_over base s.mul text ∙ ap (λ t. first_fault t text) (sym has)
-
-  -- the values of a matrix over the base are values, and not zero
-  pub stored_too : (m : Sparse) → IsMatrix base m → All (λ e. IsValue s e.value × (e.value ≢ s.zero)) m.entries
-  stored_too m h = subst (λ t. All (λ e. IsValue t e.value × (e.value ≢ t.zero)) m.entries) (sym has) (λ k e l. (h.values k e l, h.not_zero k e l))
 
   -- a matrix that was read over the base was read over the semiring
   pub read_too : (side place : ℕ) (text : List ℕ) (m n : Distributed) → IsTextRead base side place text (Ok m) → n ≡ m → IsTextRead s side place text (Ok n)

@@ -320,7 +320,7 @@ fn append_first<S: Semiring>(
 }
 
 /// The same blocks over another semiring. Their stored values must be nonzero values of that semiring too.
-fn recast_blocks<S: Semiring, T: Semiring>(
+pub(crate) fn recast_blocks<S: Semiring, T: Semiring>(
     alloc: Global,
     blocks: Vec<Block<S>>,
 ) -> Result<Vec<Block<T>>, AllocError>

@@ -1,10 +1,12 @@
 //! A matrix in panels side by side.
-ghost use Rattle.std.specs.Prelude.{◌≡◌, ◌↔◌, ◌<◌, [], ◌++◌, length, All, IfOk, OnOk, IsTrue};
+ghost use Rattle.std.specs.Prelude.{◌≡◌, ◌≢◌, ◌↔◌, ◌<◌, [], ◌++◌, length, All, IfOk, OnOk, IsTrue};
+ghost use Rattle.cb_semirings.specs.Arithmetic.{IsValue};
 ghost use Rattle.cb_matrix.specs.Sparse.{IsMatrix};
 ghost use Rattle.cb_dcsc.specs.Columns.{with_entries};
 ghost use Rattle.cb_layout.specs.Panels.{entries_of_panels, side_by_side};
 
 use crate::Segments;
+use crate::distributed::recast_blocks;
 use crate::freeing::free_blocks;
 use cb_dcsc::Block;
 use cb_matrix::{LIMIT, Shape};
@@ -76,6 +78,19 @@ impl<S: Semiring> PanelledMatrix<S> {
         block.reserve(len - block.len())?;
         append_panels(&mut block, panels)?;
         Ok(block)
+    }
+
+    /// The same matrix over another semiring. Its stored values must be nonzero values of that semiring too. No entry is
+    /// copied: it takes memory for one block header per panel. If that is refused, the matrix is dropped.
+    pub fn recast<T: Semiring>(self, alloc: Global) -> Result<PanelledMatrix<T>, AllocError>
+        requires values { All (λ e. IsValue T.arithmetic e.value × (e.value ≢ T.arithmetic.zero)) self.entries }
+        ensures { IfOk result (λ m. m ≡ self) }
+    {
+        Ok(PanelledMatrix {
+            shape: self.shape,
+            len: self.len,
+            panels: recast_blocks(alloc, self.panels)?,
+        })
     }
 
     /// Its numbers of rows and columns. The contract also says that the stored entries are inside this shape, ascend by

@@ -1,0 +1,14 @@
+use Rattle.std.proofs.Common.{List, ℕ, ◌++◌, ap, subst}
+use Rattle.cb_layout.specs.Distributed.{Distributed}
+use Rattle.cb_outcomes.specs.WriteEnds.{IsTextEnd}
+use Rattle.cb_job_output.proofs.BaseTexts.{text_too}
+use Rattle.cb_job_output.proofs.output.put_blocks_and_lines.Goals as goal
+
+pub returns : goal.returns
+returns g c =
+    let put = c.put_grid_and_lines in
+    let written = g.K.Sink.written in
+    let matrix = ap (λ (m : Distributed). m.matrix) c.in_ok-matrix.ensures in
+    let has = (g.met.S.Based g.world.𝓛 g.world.𝓜 g.world.𝓡 ((λ s x. x), (λ x. x), (λ x. x), λ x. x)).has_base in
+    let same = text_too g.S.Semiring.arithmetic g.S.Base.Semiring.arithmetic has c.args.matrix.matrix c.in_ok-matrix.matrix.matrix matrix in
+    subst (λ (t : List ℕ). IsTextEnd (t ++ c.args.lines.now) (written c.args.out.now) (written put.new.out) (g.K.Sink.has_failed put.new.out) put.result) same put.ensures
