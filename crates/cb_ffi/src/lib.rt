@@ -202,13 +202,12 @@ fn masked_panel_kept(
 }
 
 /// Hands a kept matrix to C where another was, or returns the number of the fault.
-fn put_in_place(place: &'static mut Kept, out: &mut Owned, answer: Result<Kept, Fault>) -> u32
-    ensures ok { IfOk answer (HasHandedOut result out.old out.new) }
+fn put_in_place(place: &'static mut Kept, out: &mut Owned, answer: Result<(), Fault>) -> u32
+    ensures ok { IfOk answer (λ _. HasHandedOut result out.old out.new place.old) }
     ensures refused { IfErr answer (λ f. (result ≡ code_of f) × (result ≢ 0) × (out.new ≡ out.old)) }
 {
     match answer {
-        Ok(kept) => {
-            *place = kept;
+        Ok(()) => {
             *out = hand_out(place);
             0
         }

@@ -1,8 +1,8 @@
 //! Products of two kept matrices in panels, for threads of a program in another language: where the columns are divided,
 //! the panel of a range of columns, and panels that are joined.
-ghost use Rattle.std.specs.Prelude.{◌≡◌, ◌↔◌, IsTrue, IfOk, IfErr};
+ghost use Rattle.std.specs.Prelude.{◌≡◌, ◌↔◌, IsTrue, IfOk, IfErr, OnOk, OnErr};
 ghost use Rattle.cb_semirings.specs.Names.{arithmetic_of};
-ghost use Rattle.cb_matrix.specs.Values.{product};
+ghost use Rattle.cb_matrix.specs.Values.{empty_matrix, product};
 ghost use Rattle.cb_dcsc.specs.Columns.{with_entries};
 ghost use Rattle.cb_shares.specs.Shares.{panel, AreBefore, AreEnds, JoinsPanels};
 ghost use Rattle.cb_interop.specs.Answers.{IsAnswer, NoFault};
@@ -16,7 +16,7 @@ use crate::kept_operations::block_in;
 use cb_dcsc::Block;
 use cb_product::LEAST_PRODUCTS;
 use cb_semirings::{Semiring, SemiringName, over_semiring};
-use cb_shares::{are_before, ends_of, joined, multiply_panel};
+use cb_shares::{are_before, ends_of, join, multiply_panel};
 use std::alloc::{AllocError, Global};
 
 /// Refuses two matrices over different semirings, and shapes that have no product.
@@ -176,55 +176,70 @@ fn taken_from<S: Keep>(alloc: Global, kept: &mut Kept) -> Block<S>
     }
 }
 
-/// The entries of two matrices over a semiring, taken out of them and kept.
-fn join_over<S: Keep>(alloc: Global, front: &mut Kept, back: &mut Kept) -> Result<Kept, AllocError>
+/// Appends the entries of a matrix over a semiring to those of another.
+fn join_over<S: Keep>(alloc: Global, front: &mut Kept, back: &mut Kept) -> Result<(), AllocError>
     requires front { semiring_of front.old ≡ S.name }
     requires back { semiring_of back.old ≡ S.name }
     requires shapes { (matrix_in back.old).shape ≡ (matrix_in front.old).shape }
     requires before { AreBefore (matrix_in front.old).entries (matrix_in back.old).entries }
-    ensures keeps { IfOk result (Keeps S.name (with_entries (matrix_in front.old) (matrix_in back.old).entries)) }
-    ensures panels { IfOk result (λ made. JoinsPanels S.arithmetic (matrix_in front.old) (matrix_in back.old) (matrix_in made)) }
+    ensures keeps { OnOk result (Keeps S.name (with_entries (matrix_in front.old) (matrix_in back.old).entries) front.new) }
+    ensures panels { OnOk result (JoinsPanels S.arithmetic (matrix_in front.old) (matrix_in back.old) (matrix_in front.new)) }
+    ensures rest { OnOk result (Keeps S.name (empty_matrix (matrix_in back.old).shape) back.new) }
+    ensures front { OnErr result (Keeps S.name (matrix_in front.old) front.new) }
+    ensures back { OnErr result (Keeps S.name (matrix_in back.old) back.new) }
 {
-    let first = taken_from::<S>(alloc, front);
-    let last = taken_from::<S>(alloc, back);
-    let mut block = join_blocks(first, last)?;
-    Ok(S::keep(alloc, &mut block))
+    let mut first = taken_from::<S>(alloc, front);
+    let mut last = taken_from::<S>(alloc, back);
+    let joined = join_blocks(&mut first, &mut last);
+    *front = S::keep(alloc, &mut first);
+    *back = S::keep(alloc, &mut last);
+    joined
 }
 
-/// The entries of two blocks of one shape, in one of which all columns are before those of the other.
-fn join_blocks<S: Semiring>(front: Block<S>, back: Block<S>) -> Result<Block<S>, AllocError>
-    requires shapes { back.shape ≡ front.shape }
-    requires before { AreBefore front.entries back.entries }
-    ensures entries { IfOk result (λ m. m ≡ with_entries front back.entries) }
-    ensures panels { IfOk result (JoinsPanels S.arithmetic front back) }
+/// Appends the entries of a block to those of another of its shape, in which all columns are before its own.
+fn join_blocks<S: Semiring>(front: &mut Block<S>, back: &mut Block<S>) -> Result<(), AllocError>
+    requires shapes { back.old.shape ≡ front.old.shape }
+    requires before { AreBefore front.old.entries back.old.entries }
+    ensures entries { OnOk result (front.new ≡ with_entries front.old back.old.entries) }
+    ensures panels { OnOk result (JoinsPanels S.arithmetic front.old back.old front.new) }
+    ensures rest { OnOk result (back.new ≡ empty_matrix back.old.shape) }
+    ensures front { OnErr result (front.new ≡ front.old) }
+    ensures back { OnErr result (back.new ≡ back.old) }
 {
     prove_eq!(back.shape(), front.shape());
-    joined(front, back)
+    join(front, back)
 }
 
-/// The same, over the semiring of a name.
+/// The same as `join_over`, over the semiring of a name.
 fn join_named(
     alloc: Global,
     semiring: SemiringName,
     front: &mut Kept,
     back: &mut Kept,
-) -> Result<Kept, AllocError>
+) -> Result<(), AllocError>
     requires front { semiring_of front.old ≡ semiring }
     requires back { semiring_of back.old ≡ semiring }
     requires shapes { (matrix_in back.old).shape ≡ (matrix_in front.old).shape }
     requires before { AreBefore (matrix_in front.old).entries (matrix_in back.old).entries }
-    ensures keeps { IfOk result (Keeps semiring (with_entries (matrix_in front.old) (matrix_in back.old).entries)) }
-    ensures panels { IfOk result (λ made. JoinsPanels (arithmetic_of semiring) (matrix_in front.old) (matrix_in back.old) (matrix_in made)) }
+    ensures keeps { OnOk result (Keeps semiring (with_entries (matrix_in front.old) (matrix_in back.old).entries) front.new) }
+    ensures panels { OnOk result (JoinsPanels (arithmetic_of semiring) (matrix_in front.old) (matrix_in back.old) (matrix_in front.new)) }
+    ensures rest { OnOk result (Keeps semiring (empty_matrix (matrix_in back.old).shape) back.new) }
+    ensures front { OnErr result (Keeps semiring (matrix_in front.old) front.new) }
+    ensures back { OnErr result (Keeps semiring (matrix_in back.old) back.new) }
 {
     over_semiring!(semiring, join_over::<_>(alloc, front, back))
 }
 
-/// Joins two panels of a product, also of one under a mask or outside it: keeps the entries of one matrix, and after them
-/// those of another, whose columns are all after its own. Takes the entries out of both, also if memory is refused: then
-/// they are dropped. Costs a copy of the second matrix's entries, or nothing if the first has none.
-pub fn kept_join(alloc: Global, front: &mut Kept, back: &mut Kept) -> Result<Kept, Fault>
-    ensures { IsAnswer (join_faults front.old back.old) (IsKeptJoin front.old back.old) result }
+/// Joins two panels of a product, also of one under a mask or outside it: appends the entries of a matrix to those of another,
+/// whose columns are all before its own, and leaves the first of these without entries. At a fault both stay as they were.
+/// Costs a copy of the entries that are appended, or nothing if the other matrix has none.
+pub fn kept_join(alloc: Global, front: &mut Kept, back: &mut Kept) -> Result<(), Fault>
+    ensures answer { IsAnswer (join_faults front.old back.old) (λ _. IsKeptJoin front.old back.old front.new) result }
+    ensures rest { OnOk result (Keeps (semiring_of back.old) (empty_matrix (matrix_in back.old).shape) back.new) }
+    ensures front { OnErr result (Keeps (semiring_of front.old) (matrix_in front.old) front.new) }
+    ensures back { OnErr result (Keeps (semiring_of back.old) (matrix_in back.old) back.new) }
 {
     check_join(front, back)?;
-    Ok(join_named(alloc, front.semiring(), front, back)?)
+    join_named(alloc, front.semiring(), front, back)?;
+    Ok(())
 }

@@ -8,10 +8,10 @@
 //! Nothing here starts a thread: `cb_panels` does, by a runtime, and so may a program in C.
 #![tactic(auto)]
 
-ghost use Rattle.std.specs.Prelude.{◌≡◌, ℕ, ◌↔◌, ◌<◌, ◌≤◌, IsTrue, length, get_or, slice_index, All, AllPairs, IfOk};
+ghost use Rattle.std.specs.Prelude.{◌≡◌, ℕ, ◌↔◌, ◌<◌, ◌≤◌, IsTrue, length, get_or, slice_index, All, AllPairs, IfOk, OnOk, OnErr};
 ghost use Rattle.cb_matrix.specs.Sparse.{IsMatrix};
 ghost use Rattle.cb_matrix.specs.Operations.{masked};
-ghost use Rattle.cb_matrix.specs.Values.{product, product_shape};
+ghost use Rattle.cb_matrix.specs.Values.{empty_matrix, product, product_shape};
 ghost use Rattle.cb_dcsc.specs.Columns.{columns_with_entries, with_entries};
 ghost use Rattle.cb_elementwise.specs.Complements.{excluded};
 ghost use Rattle.cb_product.specs.ColumnStarts.{Tells};
@@ -225,17 +225,20 @@ fn ends_before(front: &[u32], back: &[u32]) -> bool
     last < first
 }
 
-/// Returns a block with the entries of another after all its own. Costs a copy of the other's entries, or nothing if the
-/// block has none.
+/// Appends the entries of another block after all those of a block, and leaves the other without entries. If memory is refused,
+/// both stay as they were. Costs a copy of the other's entries, or nothing if the block has none.
 ///
-/// If both are panels of a matrix, such as a product under a mask, the second next to the first, the result is the panel of the
-/// columns of both.
-pub fn joined<S: Semiring>(mut front: Block<S>, mut back: Block<S>) -> Result<Block<S>, AllocError>
-    requires shape { back.shape ≡ front.shape }
-    requires matrix { IsMatrix S.arithmetic (with_entries front back.entries) }
-    ensures entries { IfOk result (λ m. m ≡ with_entries front back.entries) }
-    ensures panels { IfOk result (JoinsPanels S.arithmetic front back) }
+/// If both are panels of a matrix, such as a product under a mask, the second next to the first, the block becomes the panel of
+/// the columns of both.
+pub fn join<S: Semiring>(front: &mut Block<S>, back: &mut Block<S>) -> Result<(), AllocError>
+    requires shape { back.old.shape ≡ front.old.shape }
+    requires matrix { IsMatrix S.arithmetic (with_entries front.old back.old.entries) }
+    ensures entries { OnOk result (front.new ≡ with_entries front.old back.old.entries) }
+    ensures panels { OnOk result (JoinsPanels S.arithmetic front.old back.old front.new) }
+    ensures rest { OnOk result (back.new ≡ empty_matrix back.old.shape) }
+    ensures front { OnErr result (front.new ≡ front.old) }
+    ensures back { OnErr result (back.new ≡ back.old) }
 {
-    front.append(&mut back)?;
-    Ok(front)
+    front.append(back)?;
+    Ok(())
 }
