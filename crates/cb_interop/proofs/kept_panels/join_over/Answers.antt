@@ -23,8 +23,8 @@ returns g c =
     record {
       keeps = on_ok r (λ same. record { semiring = kept.semiring; matrix = kept.matrix ∙ same ∙ (λ t. with_entries (a t) (b t).entries) }) joined.entries;
       panels = on_ok r (λ panels. subst (λ (m : Sparse). JoinsPanels s m back (matrix_in c.keep.result)) a
-      (subst (λ (m : Sparse). JoinsPanels s first m (matrix_in c.keep.result)) b
-      (subst (λ (m : Sparse). JoinsPanels s first last m) (sym kept.matrix) panels))) joined.panels;
+          (subst (λ (m : Sparse). JoinsPanels s first m (matrix_in c.keep.result)) b
+          (subst (λ (m : Sparse). JoinsPanels s first last m) (sym kept.matrix) panels))) joined.panels;
       rest = on_ok r (λ same. record { semiring = rest.semiring; matrix = rest.matrix ∙ same ∙ ap (λ (m : Sparse). empty_matrix m.shape) b }) joined.rest;
       front = on_err r (λ same. record { semiring = kept.semiring; matrix = kept.matrix ∙ same ∙ a }) joined.front;
       back = on_err r (λ same. record { semiring = rest.semiring; matrix = rest.matrix ∙ same ∙ b }) joined.back;
