@@ -40,81 +40,81 @@ fn run_plan<J: Naming, R: Wait>(
     crew.run_plan(rt, alloc, plan, stores, capacity)
 }
 
-/// What a crew leaves of the doubling of a number, if there is memory for the plan.
-fn double<J: Naming, R: Wait>(
-    rt: &R,
-    alloc: Global,
-    crew: &mut Crew<PlusTimes, J>,
-    number: u64,
-) -> Option<Result<Finished<PlusTimes>, RunFault>> {
-    let (plan, stores) = doubling(alloc, number)?;
-    if crew.workers() != plan.ranks() as usize {
-        return None;
-    }
-    let capacity = Capacity::nearest(1);
-    Some(run_plan(rt, alloc, crew, &plan, stores, capacity))
+/// How a run ended.
+#[derive(Clone, Copy, Debug, PartialEq, Eq, Drop)]
+enum Outcome {
+    /// The double is there.
+    Whole,
+    /// It is lost, by one refusal.
+    Lost,
+    /// Memory was refused before any rank ran.
+    Refused,
+    Wrong,
 }
 
-/// Whether the double of a number is left.
-fn doubles<J: Naming, R: Wait>(
-    rt: &R,
-    alloc: Global,
-    crew: &mut Crew<PlusTimes, J>,
-    number: u64,
-) -> bool {
-    match double(rt, alloc, crew, number) {
-        Some(Ok(finished)) => {
-            let whole = Held::Number(number.wrapping_mul(2));
-            left_at_0(finished) == Some((whole, (0, 0)))
-        }
-        _ => false,
+/// What is left of the doubling of 3.
+fn outcome_of(finished: Finished<PlusTimes>) -> Outcome {
+    match left_at_0(finished) {
+        Some((Held::Number(6), (0, 0))) => Outcome::Whole,
+        Some((Held::LostAt(0), (1, 0))) => Outcome::Lost,
+        Some((Held::LostAt(1), (0, 1))) => Outcome::Lost,
+        _ => Outcome::Wrong,
     }
 }
 
-/// Whether a crew runs a plan after one for which memory may have been refused.
-fn runs_again<J: Naming, R: Wait>(rt: &R, alloc: Global, crew: &mut Crew<PlusTimes, J>) -> bool {
-    let first = double(rt, alloc, crew, 3);
-    let is_refusal = match first {
-        Some(Err(fault)) => fault == RunFault::Memory,
-        _ => true,
+/// How the doubling of 3 ends by a crew of two.
+fn doubled<J: Naming, R: Wait>(rt: &R, alloc: Global, crew: &mut Crew<PlusTimes, J>) -> Outcome {
+    let Some((plan, stores)) = doubling(alloc, 3) else {
+        return Outcome::Refused;
     };
-    is_refusal && crew.workers() == 2 && doubles(rt, alloc, crew, 4)
+    if crew.workers() != plan.ranks() as usize {
+        return Outcome::Wrong;
+    }
+    match run_plan(rt, alloc, crew, &plan, stores, Capacity::nearest(1)) {
+        Ok(finished) => outcome_of(finished),
+        Err(RunFault::Memory) => Outcome::Refused,
+        Err(_) => Outcome::Wrong,
+    }
 }
 
-/// The same for a new crew over these rings, if its threads can be started.
-fn hired_runs_again<J: Naming + Send + Sync, R: Threads + Wait + Sync>(
+/// The same twice by a new crew over these rings, if its threads can be started.
+fn hired_runs_twice<J: Naming + Send + Sync, R: Threads + Wait + Sync>(
     rt: &R,
     alloc: Global,
     rings: Rings<PlusTimes>,
-) -> Option<bool>
+) -> Option<[Outcome; 2]>
     requires { (k : ℕ) → J.ring k ≡ slice_get rings k }
 {
     thread::scope(
         thread::scope_env(),
         rt,
-        move |scope| -> Option<bool>
+        move |scope| -> Option<[Outcome; 2]>
             requires { (k : ℕ) → J.ring k ≡ slice_get rings k }
         {
             let hired = hire::<_, PlusTimes, J, R, OpenGate>(scope, rt, alloc, rings, &OpenGate);
             let mut crew = hired.ok()?;
-            Some(runs_again(rt, alloc, &mut crew))
+            let first = doubled(rt, alloc, &mut crew);
+            Some([first, doubled(rt, alloc, &mut crew)])
         },
     )
 }
 
 /// The same for a crew of two.
-fn crew_runs_again<R: Threads + Wait + Sync>(rt: &R, alloc: Global) -> Option<bool> {
+fn crew_runs_twice<R: Threads + Wait + Sync>(rt: &R, alloc: Global) -> Option<[Outcome; 2]> {
     let rings = Rings::open(alloc, 2).ok()?;
-    hired_runs_again::<Brand, R>(rt, alloc, rings)
+    hired_runs_twice::<Brand, R>(rt, alloc, rings)
 }
 
 #[test]
 fn a_crew_runs_one_plan_after_the_other(rt: HostRuntime) {
-    assert!(rt; crew_runs_again(&rt, rt.alloc()) == Some(true));
+    assert!(rt; crew_runs_twice(&rt, rt.alloc()) == Some([Outcome::Whole; 2]));
 }
 
-/// Passes whichever allocation is refused.
+/// Passes whichever allocation is refused: it concerns one of the two runs alone.
 #[test]
 fn a_crew_that_is_refused_memory_runs_the_next_plan(rt: HostRuntime) {
-    assert!(rt; crew_runs_again(&rt, rt.alloc()) != Some(false));
+    if let Some(outcomes) = crew_runs_twice(&rt, rt.alloc()) {
+        assert!(rt; outcomes.contains(&Outcome::Whole));
+        assert!(rt; !outcomes.contains(&Outcome::Wrong));
+    }
 }
