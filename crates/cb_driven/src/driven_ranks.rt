@@ -1,7 +1,6 @@
 //! A rank that another program drives, with the letters that it posted and took.
-ghost use Rattle.std.specs.Prelude.{◌≡◌, ◌↔◌, IsTrue, ◌<◌, IfOk, IfErr, OnOk, OnErr};
+ghost use Rattle.std.specs.Prelude.{◌≡◌, ◌↔◌, IsTrue, IfOk, IfErr, OnOk, OnErr};
 ghost use Rattle.cb_rank.specs.Ranks.{IsRank, next_half, want_of, IsTakeOrEnd};
-ghost use Rattle.cb_rank.specs.Halves.{slot_at};
 ghost use Rattle.cb_driven.specs.DrivenRanks.{CanStart, DoesNext, HasDoneNothing, IsDriven, IsPostOrShut, IsMark, IsNextLetter, IsRefusal, Posts, Takes};
 ghost use Rattle.cb_driven.specs.Joined.{IsHeld, IsLeft, IsPartOfAnswer};
 

@@ -1,6 +1,5 @@
 //! The slots with which a rank begins.
-ghost use Rattle.std.specs.Prelude.{◌≡◌, ◌↔◌, ◌==◌, ◌&&◌, IsTrue, Option};
-ghost use Rattle.cb_matrix.specs.Sparse.{Extent};
+ghost use Rattle.std.specs.Prelude.{◌≡◌, ◌↔◌, ◌==◌, ◌&&◌, IsTrue};
 ghost use Rattle.cb_plan.specs.Checks.{started};
 ghost use Rattle.cb_rank.specs.Ranks.{FitsAt};
 ghost use Rattle.cb_driven.specs.FirstStores.{HoldsShape};

@@ -1,5 +1,5 @@
 //! The letters that went over a rank's lanes, for contracts alone: only their number is kept in memory.
-ghost use Rattle.std.specs.Prelude.{◌≡◌, ◌<◌, ℕ, [], ◌∷◌, ◌++◌, length, get_or, slice_set, replicate, IfOk, OnOk, OnErr};
+ghost use Rattle.std.specs.Prelude.{◌≡◌, ◌<◌, [], ◌∷◌, ◌++◌, length, get_or, slice_set, replicate, IfOk, OnOk};
 ghost use Rattle.cb_driven.specs.LaneLetters.{HasRoom};
 
 use cb_letters::Letter;

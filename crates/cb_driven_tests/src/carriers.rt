@@ -1,5 +1,5 @@
 //! What carries letters between ranks: a list of messages, from which each rank takes those that are sent to it.
-use cb_driven::{DrivenRank, Refusal};
+use cb_driven::DrivenRank;
 use cb_letters::Letter;
 use cb_messages::{Message, letter_of};
 use cb_plan::SharedBlock;

@@ -1,5 +1,5 @@
 //! Plans over a grid, the stores of their ranks, and the blocks that they have to leave.
-ghost use Rattle.std.specs.Prelude.{◌≡◌, ◌<◌, IfSome};
+ghost use Rattle.std.specs.Prelude.{◌<◌, IfSome};
 ghost use Rattle.cb_plan.specs.Runnable.{IsRunnable};
 
 use cb_dcsc::Block;

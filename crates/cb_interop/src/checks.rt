@@ -1,5 +1,5 @@
 //! The checks of a call on lists, in the order of their faults. They take no memory.
-ghost use Rattle.std.specs.Prelude.{◌≡◌, ◌≤◌, ◌<◌, length, map, All, Some, IfSome, IfNone, IfOk, IfErr};
+ghost use Rattle.std.specs.Prelude.{◌≡◌, ◌<◌, length, map, All, Some, IfSome, IfNone, IfOk, IfErr};
 ghost use Rattle.cb_operations.specs.OperationAnswers.{operand_count_of, Agree};
 ghost use Rattle.cb_interop.specs.declared.faults.Fault.TheVariants as fault_is;
 ghost use Rattle.cb_lists.specs.Lists.{shape_of, Fits, AreLists};

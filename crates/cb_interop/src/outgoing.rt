@@ -1,5 +1,5 @@
 //! The lists of a matrix.
-ghost use Rattle.std.specs.Prelude.{◌≡◌, IfOk};
+ghost use Rattle.std.specs.Prelude.{IfOk};
 ghost use Rattle.cb_lists.specs.Lists.{HasLists};
 
 use crate::incoming::matrix_block;
