@@ -22,12 +22,6 @@ kept_call_of faults is (Ok x) code old new a h k =
     h
 kept_call_of faults is (Err f) code old new a h k = call_of faults (Has is) (Err f) code old new a tt k
 
--- the same of a call that leaves its result where an operand was
-pub kept_call_at : (faults : Fault → Type 0) (is : Kept → Type 0) (place : Kept) (r : Result (Unit {0}) Fault) (code : ℕ) (old new : Owned) → IsAnswer faults (λ _. is place) r
-    → IfOk r (λ _. HasHandedOut code old new place) → IfErr r (λ f. (code ≡ code_of f) × (code ≢ 0) × (new ≡ old)) → IsKeptCall faults is code old new
-kept_call_at faults is place (Ok x) code old new a h k = kept_call_of faults is (Ok place) code old new a h tt
-kept_call_at faults is place (Err f) code old new a h k = kept_call_of faults is (Err f) code old new a tt k
-
 -- the line of a text that is read
 pub kept_line_of : (first : Option ReadFault) (r : Result Kept Fault) (code old new : ℕ) (was now : Owned) → IsFaultLine first r old new
     → IfOk r (HasHandedOut code was now) → IfErr r (λ f. (code ≡ code_of f) × (code ≢ 0) × (now ≡ was)) → IsLine first code old new

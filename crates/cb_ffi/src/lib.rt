@@ -201,20 +201,6 @@ fn masked_panel_kept(
     put_kept(alloc, out, answer)
 }
 
-/// Hands a kept matrix to C where another was, or returns the number of the fault.
-fn put_in_place(place: &'static mut Kept, out: &mut Owned, answer: Result<(), Fault>) -> u32
-    ensures ok { IfOk answer (λ _. HasHandedOut result out.old out.new place.old) }
-    ensures refused { IfErr answer (λ f. (result ≡ code_of f) × (result ≢ 0) × (out.new ≡ out.old)) }
-{
-    match answer {
-        Ok(()) => {
-            *out = hand_out(place);
-            0
-        }
-        Err(fault) => fault.code(),
-    }
-}
-
 /// Joins two panels where the first of them is, or frees the lists of both and returns the number of the fault.
 fn join_kept(
     alloc: Global,
@@ -224,12 +210,17 @@ fn join_kept(
 ) -> u32
     ensures { IsJoinCall front.old back.old result out.old out.new }
 {
-    let answer = kept_join(alloc, front, back);
-    if answer.is_err() {
-        front.clear(alloc);
-        back.clear(alloc);
+    match kept_join(alloc, front, back) {
+        Ok(()) => {
+            *out = hand_out(front);
+            0
+        }
+        Err(fault) => {
+            front.clear(alloc);
+            back.clear(alloc);
+            fault.code()
+        }
     }
-    put_in_place(front, out, answer)
 }
 
 /// Multiplies two matrices.
