@@ -108,6 +108,131 @@ fn masks() -> &'static [Case<'static>] {
     MASKS
 }
 
+/// Columns that both blocks have, and that one of them has alone: first, last, and several in a row. In column 3 their rows
+/// alternate, and the left block's go on; in column 4 the right block's go on; the sum of column 5 is zero.
+const LEFT: Given<'static> = (
+    (6, 8),
+    entries![
+        (0, 0, 1),
+        (5, 1, 2),
+        (0, 3, 1),
+        (2, 3, 2),
+        (3, 3, 3),
+        (5, 3, 4),
+        (0, 4, 5),
+        (1, 5, TOP),
+        (2, 6, 6)
+    ],
+);
+
+const RIGHT: Given<'static> = (
+    (6, 8),
+    entries![
+        (1, 2, 10),
+        (1, 3, 20),
+        (2, 3, 30),
+        (4, 3, 40),
+        (2, 4, 50),
+        (3, 4, 60),
+        (1, 5, 1),
+        (0, 7, 70)
+    ],
+);
+
+const NEITHER: Given<'static> = ((6, 8), &[]);
+
+const BOTH_ADDED: Given<'static> = (
+    (6, 8),
+    entries![
+        (0, 0, 1),
+        (5, 1, 2),
+        (1, 2, 10),
+        (0, 3, 1),
+        (1, 3, 20),
+        (2, 3, 32),
+        (3, 3, 3),
+        (4, 3, 40),
+        (5, 3, 4),
+        (0, 4, 5),
+        (2, 4, 50),
+        (3, 4, 60),
+        (2, 6, 6),
+        (0, 7, 70)
+    ],
+);
+
+const COLUMNS: &[Case<'static>] = &[
+    (Call::Add, &[LEFT, RIGHT], BOTH_ADDED),
+    (Call::Add, &[RIGHT, LEFT], BOTH_ADDED),
+    (
+        Call::Times,
+        &[LEFT, RIGHT],
+        ((6, 8), entries![(2, 3, 60), (1, 5, TOP)]),
+    ),
+    (
+        Call::Mask,
+        &[LEFT, RIGHT],
+        ((6, 8), entries![(2, 3, 2), (1, 5, TOP)]),
+    ),
+    (
+        Call::Mask,
+        &[RIGHT, LEFT],
+        ((6, 8), entries![(2, 3, 30), (1, 5, 1)]),
+    ),
+    (
+        Call::Exclude,
+        &[LEFT, RIGHT],
+        (
+            (6, 8),
+            entries![
+                (0, 0, 1),
+                (5, 1, 2),
+                (0, 3, 1),
+                (3, 3, 3),
+                (5, 3, 4),
+                (0, 4, 5),
+                (2, 6, 6)
+            ],
+        ),
+    ),
+    (
+        Call::Exclude,
+        &[RIGHT, LEFT],
+        (
+            (6, 8),
+            entries![
+                (1, 2, 10),
+                (1, 3, 20),
+                (4, 3, 40),
+                (2, 4, 50),
+                (3, 4, 60),
+                (0, 7, 70)
+            ],
+        ),
+    ),
+    // one block has no entries
+    (Call::Add, &[LEFT, NEITHER], LEFT),
+    (Call::Add, &[NEITHER, LEFT], LEFT),
+    (Call::Times, &[LEFT, NEITHER], NEITHER),
+    (Call::Times, &[NEITHER, LEFT], NEITHER),
+    (Call::Mask, &[NEITHER, LEFT], NEITHER),
+    (Call::Exclude, &[NEITHER, LEFT], NEITHER),
+    // no entry is left
+    (
+        Call::Add,
+        &[
+            ((2, 1), entries![(0, 0, TOP)]),
+            ((2, 1), entries![(0, 0, 1)]),
+        ],
+        ((2, 1), &[]),
+    ),
+    (Call::Exclude, &[LEFT, LEFT], NEITHER),
+];
+
+fn columns() -> &'static [Case<'static>] {
+    COLUMNS
+}
+
 /// Those that are dropped are strictly below, strictly above, or equal.
 const PRUNED: &[Case<'static>] = &[
     (
@@ -152,6 +277,11 @@ fn sums_products_and_masks(rt: HostRuntime) {
 }
 
 #[test]
+fn columns_of_both_blocks_and_of_one(rt: HostRuntime) {
+    assert!(rt; are_right(rt.alloc(), columns()));
+}
+
+#[test]
 fn entries_that_pass_the_test_are_dropped(rt: HostRuntime) {
     assert!(rt; are_right(rt.alloc(), pruned()));
 }
@@ -162,5 +292,6 @@ fn entries_that_pass_the_test_are_dropped(rt: HostRuntime) {
 fn refused_memory_is_reported(rt: HostRuntime) {
     assert!(rt; are_right_or_refused(rt.alloc(), sums_and_products()));
     assert!(rt; are_right_or_refused(rt.alloc(), masks()));
+    assert!(rt; are_right_or_refused(rt.alloc(), columns()));
     assert!(rt; are_right_or_refused(rt.alloc(), pruned()));
 }

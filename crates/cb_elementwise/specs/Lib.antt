@@ -1,6 +1,7 @@
--- RuleLaws: rules applied to zeros and to values. Walks: a cursor, and what is past a place.
--- Progress: the state of a joint walk over two blocks. Complements: what the complement of a mask allows.
+-- RuleLaws: rules applied to zeros and to values. JoinedColumns: two columns joined, row by row. JoinedMatrices: two matrices
+-- joined, place by place. Replaced: stored values replaced, place by place. Complements: what the complement of a mask allows.
 pub mod RuleLaws
-pub mod Walks
-pub mod Progress
+pub mod JoinedColumns
+pub mod JoinedMatrices
+pub mod Replaced
 pub mod Complements

@@ -36,8 +36,5 @@ where_absent-zero z = same_twice (not (z == z)) z
 pub where_absent-value : (s : Arithmetic) → IsSemiring s → (x y : ℕ) → IsValue s x → IsValue s (where_absent s.zero x y)
 where_absent-value s laws x y h = either s (not (y == s.zero)) s.zero x laws.zero_value h
 
-pub unless_passes-zero : (z : ℕ) (test : Test) → unless_passes z test z ≡ z
-unless_passes-zero z test = same_twice (passes test z) z
-
 pub unless_passes-value : (s : Arithmetic) → IsSemiring s → (test : Test) (x : ℕ) → IsValue s x → IsValue s (unless_passes s.zero test x)
 unless_passes-value s laws test x h = either s (passes test x) s.zero x laws.zero_value h

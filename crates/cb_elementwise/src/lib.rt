@@ -1,10 +1,11 @@
 //! Element-wise operations on blocks: sums, products, masks, and entries dropped by a test.
 //!
-//! The value at a place of the result depends on the values at that place alone. So one walk does them all: it visits
-//! the entries of two blocks in the order of their places, by column and then by row. At each place where one of the
-//! blocks has an entry, a rule combines the two values; a place without an entry has the semiring's zero. The result is
-//! stored unless it is zero. `rules` has the rules, `cursors` the walk over one block, and `joins` the joint walk over
-//! two. To prune a block, it is joined with an empty block.
+//! The value at a place of the result depends on the values at that place alone. So two blocks are joined by one walk over the
+//! columns that have entries. A column that both have is joined row by row: at each row where one of the two has an entry, a
+//! rule combines the two values, where no entry is the semiring's zero, and the result is stored unless it is zero. What one
+//! side alone has, a column or the end of one, is copied whole or left out, as the rule says. `rules` has the rules,
+//! `column_joins` the joint walk over two columns, and `joins` that over two blocks. One block is walked by `replacements`,
+//! which apply a rule of `value_rules` to each entry.
 //!
 //! The cost of each call is proportional to the stored entries of its operands, whatever their dimensions. The
 //! operations are those of Kepner and Gilbert, Graph Algorithms in the Language of Linear Algebra (SIAM 2011), section 2.
@@ -15,16 +16,20 @@ ghost use Rattle.cb_matrix.specs.Operations.{sum_of, times_of, pruned, masked};
 ghost use Rattle.cb_matrix.specs.Passing.{passes};
 ghost use Rattle.cb_elementwise.specs.Complements.{excluded};
 
-mod cursors;
+mod column_joins;
 mod joins;
+mod replacements;
 mod rules;
+mod value_rules;
 
 use crate::joins::joined;
 use crate::rules::{Exclusion, Product, Restriction, Sum};
 use cb_dcsc::Block;
 use cb_matrix::Test;
 use cb_semirings::Semiring;
+pub use replacements::replaced;
 use std::alloc::{AllocError, Global};
+pub use value_rules::ValueRule;
 
 /// The element-wise sum of two blocks of one shape. Sums of zero aren't stored.
 ///
@@ -97,6 +102,5 @@ pub fn prune<S: Semiring>(
 ) -> Result<Block<S>, AllocError>
     ensures { IfOk result (λ kept. kept ≡ pruned S.arithmetic (passes test) block.now) }
 {
-    let nothing = Block::empty(alloc, block.shape());
-    joined(alloc, &test, block, &nothing, 0)
+    replaced(alloc, block, &test, 0)
 }

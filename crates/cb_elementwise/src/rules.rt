@@ -1,15 +1,22 @@
 //! Rules: the value of a place, given the values of two blocks there.
 ghost use Rattle.std.specs.Prelude.{◌≡◌, ℕ, cond, ◌==◌, not};
 ghost use Rattle.cb_semirings.specs.Arithmetic.{IsValue};
-ghost use Rattle.cb_elementwise.specs.RuleLaws.{unless_passes, unless_passes-zero, unless_passes-value, where_stored, where_stored-zero, where_stored-value, where_absent, where_absent-zero, where_absent-value};
+ghost use Rattle.cb_elementwise.specs.RuleLaws.{where_stored, where_stored-zero, where_stored-value, where_absent, where_absent-zero, where_absent-value};
 
-use cb_matrix::Test;
 use cb_semirings::Semiring;
 
 /// A rule combines two values of a semiring into one, and two zeros into zero.
 pub(crate) trait Rule<S: Semiring> {
     /// The combined value.
     ghost combined: { Self → ℕ → ℕ → ℕ };
+
+    /// Whether a value of the left block is kept where the right block has none. Otherwise it is dropped.
+    fn keeps_left(&self) -> bool
+        ensures { (x : ℕ) → IsValue S.arithmetic x → combined self.now x S.arithmetic.zero ≡ cond result x S.arithmetic.zero };
+
+    /// Whether a value of the right block is kept where the left block has none. Otherwise it is dropped.
+    fn keeps_right(&self) -> bool
+        ensures { (x : ℕ) → IsValue S.arithmetic x → combined self.now S.arithmetic.zero x ≡ cond result x S.arithmetic.zero };
 
     fn combine(&self, left: u64, right: u64) -> u64
         requires left_is_value { IsValue S.arithmetic left }
@@ -32,6 +39,14 @@ impl<S: Semiring> Rule<S> for Sum {
 
     ghost values = { λ rule x y h k. S.is_semiring.add_value x y h k };
 
+    fn keeps_left(&self) -> bool {
+        true
+    }
+
+    fn keeps_right(&self) -> bool {
+        true
+    }
+
     fn combine(&self, left: u64, right: u64) -> u64 {
         S::add(left, right)
     }
@@ -47,6 +62,14 @@ impl<S: Semiring> Rule<S> for Product {
     ghost zeros = { λ rule. S.is_semiring.zero_mul S.arithmetic.zero S.is_semiring.zero_value };
 
     ghost values = { λ rule x y h k. S.is_semiring.mul_value x y h k };
+
+    fn keeps_left(&self) -> bool {
+        false
+    }
+
+    fn keeps_right(&self) -> bool {
+        false
+    }
 
     fn combine(&self, left: u64, right: u64) -> u64 {
         S::mul(left, right)
@@ -64,6 +87,14 @@ impl<S: Semiring> Rule<S> for Restriction {
 
     ghost values = { λ rule x y h k. where_stored-value S.arithmetic S.is_semiring x y h };
 
+    fn keeps_left(&self) -> bool {
+        false
+    }
+
+    fn keeps_right(&self) -> bool {
+        false
+    }
+
     fn combine(&self, left: u64, right: u64) -> u64 {
         if right == S::zero() { S::zero() } else { left }
     }
@@ -80,20 +111,15 @@ impl<S: Semiring> Rule<S> for Exclusion {
 
     ghost values = { λ rule x y h k. where_absent-value S.arithmetic S.is_semiring x y h };
 
+    fn keeps_left(&self) -> bool {
+        true
+    }
+
+    fn keeps_right(&self) -> bool {
+        false
+    }
+
     fn combine(&self, left: u64, right: u64) -> u64 {
         if right == S::zero() { left } else { S::zero() }
-    }
-}
-
-/// The first value, unless it passes the test.
-impl<S: Semiring> Rule<S> for Test {
-    ghost combined = { λ rule x y. unless_passes S.arithmetic.zero rule x };
-
-    ghost zeros = { λ rule. unless_passes-zero S.arithmetic.zero rule };
-
-    ghost values = { λ rule x y h k. unless_passes-value S.arithmetic S.is_semiring rule x h };
-
-    fn combine(&self, left: u64, _right: u64) -> u64 {
-        if self.passes(left) { S::zero() } else { left }
     }
 }

@@ -6,7 +6,8 @@ use Rattle.cb_matrix.specs.Sparse.{Sparse, IsMatrix, at}
 use Rattle.cb_matrix.specs.Operations.{is_covered, placed, sum_of}
 use Rattle.cb_matrix.proofs.Made.{same_matrix_of, at-matrix_of}
 use Rattle.cb_matrix.proofs.Totals.{add_zero, value_at-value}
-use Rattle.cb_selections.specs.Replaced.{of_stored, where_true, replaced}
+use Rattle.cb_elementwise.specs.Replaced.{of_stored, replaced}
+use Rattle.cb_selections.specs.Regions.{where_true}
 use Rattle.cb_selections.specs.Selections.{assigned}
 use Rattle.cb_selections.proofs.RegionValues.{stored_where}
 

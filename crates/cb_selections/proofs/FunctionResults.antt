@@ -15,9 +15,9 @@ use Rattle.cb_selections.specs.declared.functions.Function.{Function}
 use Rattle.cb_selections.specs.declared.functions.Function.TheVariants.{Constant, Sum, LeftProduct, RightProduct, Row, Column}
 use Rattle.cb_selections.specs.Functions.{operand_of, function_value, depends_on_column}
 use Rattle.cb_selections.specs.FunctionLaws.{function_value-value}
-use Rattle.cb_selections.specs.Replaced.{of_stored}
+use Rattle.cb_elementwise.specs.Replaced.{of_stored}
 use Rattle.cb_selections.specs.Selections.{applied, results_of}
-use Rattle.cb_selections.proofs.ReplacedColumn.{of_stored-some, of_stored-none}
+use Rattle.cb_elementwise.proofs.ReplacedColumn.{of_stored-some, of_stored-none}
 
 -- a function that doesn't depend on the column has the same operand in each
 pub operand_anywhere : (f : Function) → depends_on_column f ≡ false → (i j k : ℕ) → operand_of f i j ≡ operand_of f i k

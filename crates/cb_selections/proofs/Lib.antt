@@ -1,14 +1,11 @@
--- ReplacedColumn: a column whose values are replaced, one by one.
--- ReplacedColumns: all columns. RegionValues: values in a region. RegionRanges: the part of a column in one. DiagonalColumn: the diagonal as a column.
+-- RegionValues: values in a region. RegionRanges: the part of a column in one. DiagonalColumn: the diagonal as a column.
 -- DiagonalPlaces: a column as a diagonal. ExtractedColumns: rows and columns by their numbers. ListedRows: rows whose
 -- numbers ascend. NumberPairs: a walk over pairs of
 -- numbers. ListMade: a column that is made row by row. PairedRows, PairedColumns: those of a Kronecker product.
 -- FunctionResults: the results of a function in place of values. UpdatedPlaces: a matrix updated by another one, place by place. PowerSteps: powers, one product
 -- after another.
 mod AssignedPart
-mod ReplacedColumn
 mod FunctionResults
-mod ReplacedColumns
 mod RegionValues
 mod RegionRanges
 mod DiagonalColumn

@@ -15,8 +15,7 @@ use Rattle.cb_product.specs.InColumns.{AreInColumns}
 use Rattle.cb_product.specs.SparseColumn.{IsSparseColumn}
 use Rattle.cb_product.proofs.ColumnsMade.{absent_value}
 use Rattle.cb_selections.specs.declared.regions.Region.{Region}
-use Rattle.cb_selections.specs.Regions.{is_in}
-use Rattle.cb_selections.specs.Replaced.{where_true}
+use Rattle.cb_selections.specs.Regions.{is_in, where_true}
 use Rattle.cb_selections.proofs.DiagonalPlaces.{zero_where}
 
 -- ---- where a row would stand

@@ -6,11 +6,11 @@ use Rattle.cb_semirings.specs.Arithmetic.{Arithmetic}
 use Rattle.cb_matrix.specs.Sparse.{Sparse, at}
 use Rattle.cb_matrix.proofs.Made.{same_matrix_of}
 use Rattle.cb_selections.specs.declared.regions.Region.{Region}
-use Rattle.cb_selections.specs.Regions.{is_in}
-use Rattle.cb_selections.specs.Replaced.{of_stored, where_true, replaced}
+use Rattle.cb_selections.specs.Regions.{is_in, where_true}
+use Rattle.cb_elementwise.specs.Replaced.{of_stored, replaced}
 use Rattle.cb_selections.specs.Selections.{selected}
 use Rattle.cb_selections.proofs.DiagonalPlaces.{zero_where}
-use Rattle.cb_selections.proofs.ReplacedColumn.{of_stored-some, of_stored-none}
+use Rattle.cb_elementwise.proofs.ReplacedColumn.{of_stored-some, of_stored-none}
 
 -- a value replaced by itself or by zero
 pub stored_where : (z : ℕ) (b : Bool) (x : ℕ) → of_stored z (where_true z b) x ≡ where_true z b x

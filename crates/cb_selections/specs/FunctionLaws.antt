@@ -4,7 +4,7 @@ use Rattle.cb_semirings.specs.Arithmetic.{Arithmetic, IsValue, IsSemiring}
 use Rattle.cb_selections.specs.declared.functions.Function.{Function}
 use Rattle.cb_selections.specs.declared.functions.Function.TheVariants.{Constant, Sum, LeftProduct, RightProduct, Row, Column}
 use Rattle.cb_selections.specs.Functions.{operand_of, function_value}
-use Rattle.cb_selections.specs.Replaced.{where_true}
+use Rattle.cb_selections.specs.Regions.{where_true}
 
 pub where_true-value : (s : Arithmetic) → IsSemiring s → (test : Bool) (x : ℕ) → IsValue s x → IsValue s (where_true s.zero test x)
 where_true-value s laws true x h = h

@@ -1,10 +1,8 @@
--- Regions: places by their diagonal. Functions: functions of values and places. Replaced: stored values replaced, place by
--- place. FunctionLaws: functions make values from values. Selections: the results of this crate's calls, by their values.
--- Updates: a matrix updated by another one, under a mask. TurnedProducts: products of matrices that may be transposed, and
+-- Regions: places by their diagonal. Functions: functions of values and places. FunctionLaws: functions make values from
+-- values. Selections: the results of this crate's calls, by their values. Updates: a matrix updated by another one, under a mask. TurnedProducts: products of matrices that may be transposed, and
 -- powers.
 pub mod Regions
 pub mod Functions
-pub mod Replaced
 pub mod FunctionLaws
 pub mod Selections
 pub mod Updates

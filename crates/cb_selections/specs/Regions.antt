@@ -1,5 +1,5 @@
 -- Regions of a matrix, bounded by a diagonal.
-use Rattle.std.specs.Prelude.{ℕ, ◌+◌, ◌==◌, Bool, true, false, not, nat_le}
+use Rattle.std.specs.Prelude.{ℕ, ◌+◌, ◌==◌, Bool, cond, true, false, not, nat_le}
 use Rattle.cb_selections.specs.declared.regions.Region.{Region}
 use Rattle.cb_selections.specs.declared.regions.Region.TheVariants.{Lower, Upper, On, Off}
 
@@ -17,3 +17,7 @@ is_one_range (Lower d) = true
 is_one_range (Upper d) = true
 is_one_range (On d) = true
 is_one_range (Off d) = false
+
+-- the value if the test holds, or else z
+abbrev pub where_true : ℕ → Bool → ℕ → ℕ
+where_true z test x = cond test x z

@@ -8,9 +8,9 @@ use Rattle.cb_matrix.specs.Operations.{is_covered}
 use Rattle.cb_dcsc.specs.Columns.{row_value}
 use Rattle.cb_selections.specs.declared.regions.Region.{Region}
 use Rattle.cb_selections.specs.declared.functions.Function.{Function}
-use Rattle.cb_selections.specs.Regions.{is_in}
+use Rattle.cb_selections.specs.Regions.{is_in, where_true}
 use Rattle.cb_selections.specs.Functions.{function_value}
-use Rattle.cb_selections.specs.Replaced.{where_true, replaced}
+use Rattle.cb_elementwise.specs.Replaced.{replaced}
 
 -- the entries in a region
 abbrev pub selected : Arithmetic → Region → Sparse → Sparse

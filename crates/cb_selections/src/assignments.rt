@@ -2,14 +2,12 @@
 ghost use Rattle.std.specs.Prelude.{◌≡◌, ℕ, ◌≤◌, ◌+◌, not, IfOk};
 ghost use Rattle.cb_semirings.specs.Arithmetic.{IsValue};
 ghost use Rattle.cb_matrix.specs.Operations.{is_covered};
-ghost use Rattle.cb_selections.specs.Replaced.{where_true};
+ghost use Rattle.cb_selections.specs.Regions.{where_true};
 ghost use Rattle.cb_selections.specs.FunctionLaws.{where_true-value};
 ghost use Rattle.cb_selections.specs.Selections.{assigned};
 
-use crate::replacements::replaced;
-use crate::value_rules::Rule;
 use cb_dcsc::Block;
-use cb_elementwise::add;
+use cb_elementwise::{ValueRule, add, replaced};
 use cb_matrix::Shape;
 use cb_reshape::place;
 use cb_semirings::Semiring;
@@ -57,7 +55,7 @@ impl Outside {
 }
 
 /// The value outside the part, and zero in it.
-impl<S: Semiring> Rule<S> for Outside {
+impl<S: Semiring> ValueRule<S> for Outside {
     ghost fits = { λ rule i j. Unit {0} };
 
     ghost made = { λ rule i j x. where_true S.arithmetic.zero (not (is_covered rule.corner rule.shape i j)) x };

@@ -4,7 +4,7 @@
 //!
 //! Each walks the columns that have entries, in order, so its cost is proportional to the entries, whatever the
 //! dimensions. A rule (`value_rules`) gives an entry its new value: it is a region of places (`regions`), or a function of the
-//! value and the place (`functions`). One walk (`replacements`) applies any rule; where all entries keep their places, or
+//! value and the place (`functions`). One walk (`replaced` of `cb_elementwise`) applies any rule; where all entries keep their places, or
 //! those of a column that stay follow one another, lists are copied whole.
 //!
 //! The operations are `GrB_select`, `GrB_apply`, `GrB_Matrix_diag`, `GrB_extract`, `GrB_assign` and `GrB_kronecker` of The
@@ -26,14 +26,13 @@ mod functions;
 mod kronecker_products;
 mod powers;
 mod regions;
-mod replacements;
 mod turned_products;
 mod updates;
 mod value_rules;
 
-use crate::replacements::replaced;
 pub use assignments::assign;
 use cb_dcsc::Block;
+use cb_elementwise::replaced;
 use cb_matrix::{LIMIT, Shape};
 use cb_semirings::Semiring;
 pub use diagonals::{diagonal, diagonal_matrix};

@@ -1,33 +1,17 @@
 //! Rules that give an entry a new value, by its place.
 ghost use Rattle.std.specs.Prelude.{◌≡◌, ℕ};
 ghost use Rattle.cb_semirings.specs.Arithmetic.{IsValue};
-ghost use Rattle.cb_selections.specs.Regions.{is_in};
+ghost use Rattle.cb_selections.specs.Regions.{is_in, where_true};
 ghost use Rattle.cb_selections.specs.Functions.{operand_of, function_value};
-ghost use Rattle.cb_selections.specs.Replaced.{where_true};
 ghost use Rattle.cb_selections.specs.FunctionLaws.{where_true-value, function_value-value};
 
 use crate::functions::Function;
 use crate::regions::Region;
+use cb_elementwise::ValueRule;
 use cb_semirings::Semiring;
 
-/// A rule makes a value from the value and the place of an entry.
-pub(crate) trait Rule<S: Semiring> {
-    /// At this place it makes values from values.
-    ghost fits: { Self → ℕ → ℕ → Type 0 };
-
-    /// The new value, by row, column and old value.
-    ghost made: { Self → ℕ → ℕ → ℕ → ℕ };
-
-    fn make(&self, row: u32, column: u32, value: u64) -> u64
-        requires value { IsValue S.arithmetic value }
-        requires fits { fits self.now row column }
-        ensures { result ≡ made self.now row column value };
-
-    ghost values: { (rule : Self) (i j x : ℕ) → fits rule i j → IsValue S.arithmetic x → IsValue S.arithmetic (made rule i j x) };
-}
-
 /// Keeps values in the region, and makes others zero.
-impl<S: Semiring> Rule<S> for Region {
+impl<S: Semiring> ValueRule<S> for Region {
     ghost fits = { λ rule i j. Unit {0} };
 
     ghost made = { λ rule i j x. where_true S.arithmetic.zero (is_in rule i j) x };
@@ -44,7 +28,7 @@ impl<S: Semiring> Rule<S> for Region {
 }
 
 /// Applies the function.
-impl<S: Semiring> Rule<S> for Function {
+impl<S: Semiring> ValueRule<S> for Function {
     ghost fits = { λ rule i j. IsValue S.arithmetic (operand_of rule i j) };
 
     ghost made = { λ rule i j x. function_value S.arithmetic rule i j x };

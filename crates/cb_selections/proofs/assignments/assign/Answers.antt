@@ -3,7 +3,8 @@ use Rattle.std.specs.Prelude.{not}
 use Rattle.std.proofs.lemmas.Result.{IfOk-weaker}
 use Rattle.cb_matrix.specs.Operations.{is_covered, placed, sum_of}
 use Rattle.cb_matrix.specs.Sparse.{Sparse, Extent}
-use Rattle.cb_selections.specs.Replaced.{where_true, replaced}
+use Rattle.cb_elementwise.specs.Replaced.{replaced}
+use Rattle.cb_selections.specs.Regions.{where_true}
 use Rattle.cb_selections.specs.Selections.{assigned}
 use Rattle.cb_selections.proofs.AssignedPart.{assigned_is}
 use Rattle.cb_selections.proofs.assignments.assign.Goals as goal

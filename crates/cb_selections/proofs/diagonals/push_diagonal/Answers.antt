@@ -5,7 +5,7 @@ use Rattle.cb_matrix.proofs.Totals.{value_at-value}
 use Rattle.cb_dcsc.specs.Columns.{rows_of, values_of}
 use Rattle.cb_dcsc.proofs.Lookup.{as_long}
 use Rattle.cb_product.proofs.ProductColumns.{own_column}
-use Rattle.cb_selections.proofs.ReplacedColumns.{nth_are}
+use Rattle.cb_elementwise.proofs.ReplacedColumns.{nth_are}
 use Rattle.cb_selections.proofs.DiagonalColumn.{diagonal_none, diagonal_inside, diagonal_more, diagonal_all}
 use Rattle.cb_selections.proofs.diagonals.push_diagonal.Goals as goal
 

@@ -7,7 +7,7 @@ use Rattle.cb_dcsc.proofs.Lookup.{rows_inside}
 use Rattle.cb_product.proofs.StoredColumn.{column_adds}
 use Rattle.cb_product.proofs.ColumnsMade.{walk_none, walk_more, walk_all, before_column}
 use Rattle.cb_selections.specs.ListedRows.{ArePlaces}
-use Rattle.cb_selections.proofs.ReplacedColumns.{nth_are}
+use Rattle.cb_elementwise.proofs.ReplacedColumns.{nth_are}
 use Rattle.cb_selections.proofs.ListedRows.{value_for, listed_absent, listed_has, listed_column, listed_are}
 use Rattle.cb_selections.proofs.extracts.push_listed.Goals as goal
 

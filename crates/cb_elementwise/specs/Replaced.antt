@@ -1,5 +1,5 @@
 -- Stored values replaced, place by place.
-use Rattle.std.specs.Prelude.{◌≡◌, ℕ, Bool, not, ◌==◌, cond, List}
+use Rattle.std.specs.Prelude.{◌≡◌, ℕ, not, ◌==◌, cond, List}
 use Rattle.cb_semirings.specs.Arithmetic.{Arithmetic}
 use Rattle.cb_matrix.specs.Sparse.{Sparse, at}
 use Rattle.cb_matrix.specs.Values.{matrix_of}
@@ -8,10 +8,6 @@ use Rattle.cb_dcsc.specs.Columns.{row_value}
 -- f of a value that is stored; a place without an entry keeps z
 abbrev pub of_stored : ℕ → (ℕ → ℕ) → ℕ → ℕ
 of_stored z f x = cond (not (x == z)) (f x) z
-
--- the value if the test holds, or else z
-abbrev pub where_true : ℕ → Bool → ℕ → ℕ
-where_true z test x = cond test x z
 
 -- the matrix with f i j applied to the value stored at each place (i, j)
 abbrev pub replaced : Arithmetic → (ℕ → ℕ → ℕ → ℕ) → Sparse → Sparse

@@ -4,15 +4,17 @@ ghost use Rattle.cb_semirings.specs.Arithmetic.{IsValue};
 ghost use Rattle.cb_matrix.specs.Sparse.{IsMatrix};
 ghost use Rattle.cb_matrix.specs.Values.{empty_matrix};
 ghost use Rattle.cb_product.specs.SparseColumn.{IsSparseColumn};
-ghost use Rattle.cb_selections.specs.Replaced.{replaced, IsReplaced};
+ghost use Rattle.cb_elementwise.specs.Replaced.{replaced, IsReplaced};
 
-use crate::value_rules::Rule;
+use crate::value_rules::ValueRule;
 use cb_dcsc::Block;
 use cb_semirings::Semiring;
 use std::alloc::{AllocError, Global};
 
-/// The block with a rule applied to each entry. It gets room for this many entries at the start.
-pub(crate) fn replaced<S: Semiring, R: Rule<S>>(
+/// The block with a rule applied to each entry, without zeros. It gets room for this many entries at the start.
+///
+/// Costs a few instructions for each entry, and for each column that has entries.
+pub fn replaced<S: Semiring, R: ValueRule<S>>(
     alloc: Global,
     block: &Block<S>,
     rule: &R,
@@ -30,7 +32,7 @@ pub(crate) fn replaced<S: Semiring, R: Rule<S>>(
 }
 
 /// Stores the block with the rule applied in an empty block. The lists hold one column at a time.
-fn push_columns<S: Semiring, R: Rule<S>>(
+fn push_columns<S: Semiring, R: ValueRule<S>>(
     out: &mut Block<S>,
     kept_rows: &mut Vec<u32>,
     kept_values: &mut Vec<u64>,
@@ -53,7 +55,7 @@ fn push_columns<S: Semiring, R: Rule<S>>(
 }
 
 /// Fills the two lists with the rows and values of a column after a rule, without zeros.
-fn replace_column<S: Semiring, R: Rule<S>>(
+fn replace_column<S: Semiring, R: ValueRule<S>>(
     kept_rows: &mut Vec<u32>,
     kept_values: &mut Vec<u64>,
     column: u32,

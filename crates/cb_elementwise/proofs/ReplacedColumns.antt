@@ -10,9 +10,9 @@ use Rattle.cb_product.specs.InColumns.{AreInColumns}
 use Rattle.cb_product.specs.SparseColumn.{IsSparseColumn}
 use Rattle.cb_product.proofs.ProductColumns.{own_column}
 use Rattle.cb_product.proofs.StoredColumn.{column_inside}
-use Rattle.cb_selections.specs.Replaced.{of_stored}
+use Rattle.cb_elementwise.specs.Replaced.{of_stored}
 use Rattle.cb_product.proofs.ColumnsMade.{absent_value}
-use Rattle.cb_selections.proofs.ReplacedColumn.{of_stored-none}
+use Rattle.cb_elementwise.proofs.ReplacedColumn.{of_stored-none}
 
 -- the rows of the n-th column that has entries, by its number
 pub nth_are : (es : List Entry) (cs xs : List ℕ) (n : ℕ) (part : List Entry → List ℕ) → cs ≡ columns_with_entries es → xs ≡ part (in_column (get_or (columns_with_entries es) n 0) es) → xs ≡ part (in_column (get_or cs n 0) es)

@@ -1,13 +1,13 @@
 use Rattle.std.proofs.Common.{◌≡◌, ◌≢◌, ◌+◌, ◌<◌, ◌∙◌, ◌++◌, [], ◌∷◌, ℕ, length, get_or, sym, subst, arith}
 use Rattle.std.proofs.lemmas.List.Elements.{All-get_or}
 use Rattle.cb_semirings.specs.Arithmetic.{IsValue}
-use Rattle.cb_selections.proofs.ReplacedColumn.{replaced_none, replaced_same, replaced_kept, replaced_dropped, replaced_all}
-use Rattle.cb_selections.proofs.replacements.replace_column.Goals as goal
-use Rattle.cb_selections.proofs.replacements.replace_column.Goals.{then-value-zero, else-value-zero}
+use Rattle.cb_elementwise.proofs.ReplacedColumn.{replaced_none, replaced_same, replaced_kept, replaced_dropped, replaced_all}
+use Rattle.cb_elementwise.proofs.replacements.replace_column.Goals as goal
+use Rattle.cb_elementwise.proofs.replacements.replace_column.Goals.{then-value-zero, else-value-zero}
 
 pub loop-n-init : goal.loop-n-init
 loop-n-init g c = record {
-  made = replaced_none g.S.Semiring.arithmetic g.met.S.Semiring.is_semiring (λ i x. g.R.Rule.made c.args.rule.now i c.args.column x) c.args.rows.now c.args.values.now c.requires.entries _ _ (c.in_ok-reserve.ensures.items ∙ c.clear.ensures.items) (c.in_ok-reserve-2.ensures.items ∙ c.clear-2.ensures.items);
+  made = replaced_none g.S.Semiring.arithmetic g.met.S.Semiring.is_semiring (λ i x. g.R.ValueRule.made c.args.rule.now i c.args.column x) c.args.rows.now c.args.values.now c.requires.entries _ _ (c.in_ok-reserve.ensures.items ∙ c.clear.ensures.items) (c.in_ok-reserve-2.ensures.items ∙ c.clear-2.ensures.items);
   rows_room = omega (arith, c.in_ok-reserve.ensures.ok);
   values_room = omega (arith, c.in_ok-reserve-2.ensures.ok);
 }
@@ -19,13 +19,13 @@ make-value-requires-clause-value g c =
     All-get_or (IsValue g.S.Semiring.arithmetic) c.args.values.now c.loop-n.n 0 l c.requires.entries.are_values
 
 pub make-value-requires-clause-fits : goal.make-value-requires-clause-fits
-make-value-requires-clause-fits g c = All-get_or (λ i. g.R.Rule.fits c.args.rule.now i c.args.column) c.args.rows.now c.loop-n.n 0 c.loop-n-test.true c.requires.fits
+make-value-requires-clause-fits g c = All-get_or (λ i. g.R.ValueRule.fits c.args.rule.now i c.args.column) c.args.rows.now c.loop-n.n 0 c.loop-n-test.true c.requires.fits
 
 pub loop-n-preserved : goal.loop-n-preserved
 loop-n-preserved g c =
     let s = g.S.Semiring.arithmetic in
     let laws = g.met.S.Semiring.is_semiring in
-    let made : ℕ → ℕ → ℕ = λ i x. g.R.Rule.made c.args.rule.now i c.args.column x in
+    let made : ℕ → ℕ → ℕ = λ i x. g.R.ValueRule.made c.args.rule.now i c.args.column x in
     let rows = c.args.rows.now in
     let values = c.args.values.now in
     let is = c.requires.entries in
@@ -39,8 +39,8 @@ loop-n-preserved g c =
     elim c.if-value-zero.branch [
       | then-value-zero w ↦
           let some : v ≢ s.zero = λ e. w.if-value-zero.true (e ∙ sym c.zero.ensures) in
-          let fits = All-get_or (λ i. g.R.Rule.fits c.args.rule.now i c.args.column) rows n 0 l c.requires.fits in
-          let value : IsValue s v = subst (IsValue s) (sym v_is) (g.met.R.Rule.values c.args.rule.now (get_or rows n 0) c.args.column (get_or values n 0) fits (All-get_or (IsValue s) values n 0 l' is.are_values)) in
+          let fits = All-get_or (λ i. g.R.ValueRule.fits c.args.rule.now i c.args.column) rows n 0 l c.requires.fits in
+          let value : IsValue s v = subst (IsValue s) (sym v_is) (g.met.R.ValueRule.values c.args.rule.now (get_or rows n 0) c.args.column (get_or values n 0) fits (All-get_or (IsValue s) values n 0 l' is.are_values)) in
           let new_rows = w.push_reserved.ensures in
           let new_values = w.push_reserved-then-value-zero.ensures in
           rw (w.kept_rows-is, w.kept_values-is) (record {
@@ -59,4 +59,4 @@ loop-n-preserved g c =
     ]
 
 pub returns-clause-values : goal.returns-clause-values
-returns-clause-values g c = replaced_all g.S.Semiring.arithmetic g.met.S.Semiring.is_semiring (λ i x. g.R.Rule.made c.args.rule.now i c.args.column x) c.args.rows.now c.args.values.now c.requires.entries c.loop-n.n _ _ (let f = c.loop-n-test.false in omega arith) c.loop-n.invariant.made
+returns-clause-values g c = replaced_all g.S.Semiring.arithmetic g.met.S.Semiring.is_semiring (λ i x. g.R.ValueRule.made c.args.rule.now i c.args.column x) c.args.rows.now c.args.values.now c.requires.entries c.loop-n.n _ _ (let f = c.loop-n-test.false in omega arith) c.loop-n.invariant.made

@@ -7,14 +7,14 @@ use Rattle.cb_dcsc.proofs.Lookup.{rows_inside}
 use Rattle.cb_product.proofs.OwnColumn.{own_sparse}
 use Rattle.cb_product.proofs.StoredColumn.{column_adds}
 use Rattle.cb_product.proofs.ColumnsMade.{walk_none, walk_more, walk_all, before_column}
-use Rattle.cb_selections.proofs.ReplacedColumns.{nth_are, value_for, replaced_absent, replaced_has, replaced_inside}
-use Rattle.cb_selections.proofs.replacements.push_columns.Goals as goal
+use Rattle.cb_elementwise.proofs.ReplacedColumns.{nth_are, value_for, replaced_absent, replaced_has, replaced_inside}
+use Rattle.cb_elementwise.proofs.replacements.push_columns.Goals as goal
 
 pub loop-n-init : goal.loop-n-init
 loop-n-init g c =
     let s = g.S.Semiring.arithmetic in
     let a = c.args.block.now in
-    let f = g.R.Rule.made c.args.rule.now in
+    let f = g.R.ValueRule.made c.args.rule.now in
     let cs = c.column_numbers-columns in
     walk_none s a.shape (value_for s a c.requires.matrix f) cs.result.now cs.ensures.ascending cs.ensures.inside (replaced_absent s a c.requires.matrix f cs.result.now cs.ensures.all) c.args.out.now c.requires.out_matrix c.requires.empty
 
@@ -27,7 +27,7 @@ replace_column-requires-clause-fits g c =
     let j = get_or cs.result.now n 0 in
     let rows_are = nth_are a.entries cs.result.now c.nth_column.result.0.now n rows_of cs.ensures.numbers c.nth_column.ensures.rows in
     let inside : j < a.shape.cols = All-get_or (λ j. j < a.shape.cols) cs.result.now n 0 c.loop-n-test.true cs.ensures.inside in
-    All-weaker (λ i. i < a.shape.rows) (λ i. g.R.Rule.fits c.args.rule.now i j) (λ i b. c.requires.fits i j b inside) c.nth_column.result.0.now (rows_inside s a j c.nth_column.result.0.now c.requires.matrix rows_are)
+    All-weaker (λ i. i < a.shape.rows) (λ i. g.R.ValueRule.fits c.args.rule.now i j) (λ i b. c.requires.fits i j b inside) c.nth_column.result.0.now (rows_inside s a j c.nth_column.result.0.now c.requires.matrix rows_are)
 
 pub replace_column-requires-clause-entries : goal.replace_column-requires-clause-entries
 replace_column-requires-clause-entries g c =
@@ -41,7 +41,7 @@ push_column-requires-clause-rows g c =
     let s = g.S.Semiring.arithmetic in
     let a = c.args.block.now in
     let is = c.requires.matrix in
-    let f = g.R.Rule.made c.args.rule.now in
+    let f = g.R.ValueRule.made c.args.rule.now in
     let cs = c.column_numbers-columns in
     let n = c.loop-n.n in
     let j = get_or cs.result.now n 0 in
@@ -59,14 +59,14 @@ pub push_column-requires-clause-before : goal.push_column-requires-clause-before
 push_column-requires-clause-before g c =
     let s = g.S.Semiring.arithmetic in
     let a = c.args.block.now in
-    before_column s a.shape (value_for s a c.requires.matrix (g.R.Rule.made c.args.rule.now)) c.column_numbers-columns.result.now c.loop-n.n c.loop-n.out c.loop-n-test.true c.loop-n.invariant
+    before_column s a.shape (value_for s a c.requires.matrix (g.R.ValueRule.made c.args.rule.now)) c.column_numbers-columns.result.now c.loop-n.n c.loop-n.out c.loop-n-test.true c.loop-n.invariant
 
 pub loop-n-preserved : goal.loop-n-preserved
 loop-n-preserved g c =
     let s = g.S.Semiring.arithmetic in
     let a = c.args.block.now in
     let is = c.requires.matrix in
-    let f = g.R.Rule.made c.args.rule.now in
+    let f = g.R.ValueRule.made c.args.rule.now in
     let cs = c.column_numbers-columns in
     let n = c.loop-n.n in
     let j = get_or cs.result.now n 0 in
@@ -86,6 +86,6 @@ pub returns : goal.returns
 returns g c =
     let s = g.S.Semiring.arithmetic in
     let a = c.args.block.now in
-    let f = g.R.Rule.made c.args.rule.now in
+    let f = g.R.ValueRule.made c.args.rule.now in
     let cs = c.column_numbers-columns in
     walk_all s a.shape (value_for s a c.requires.matrix f) cs.result.now cs.ensures.ascending cs.ensures.inside (replaced_absent s a c.requires.matrix f cs.result.now cs.ensures.all) g.met.S.Semiring.is_semiring c.loop-n.out c.loop-n.n (let t = c.loop-n-test.false in omega arith) c.loop-n.invariant

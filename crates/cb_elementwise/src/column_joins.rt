@@ -1,0 +1,144 @@
+//! Two columns joined by a rule.
+//!
+//! Where both columns have entries left, the lower of the two rows is next. Which of the two it is can't be predicted, so it is
+//! picked without a branch.
+ghost use Rattle.std.specs.Prelude.{◌≡◌, ℕ, ◌+◌, ◌-◌, ◌<◌, ◌≤◌, ◌++◌, ◌∷◌, [], cond, length, drop, OnOk, vec_len, vec_capacity};
+ghost use Rattle.cb_product.specs.SparseColumn.{IsSparseColumn};
+ghost use Rattle.cb_elementwise.specs.JoinedColumns.{IsJoined, IsJoinedTo, where_kept};
+
+use crate::rules::Rule;
+use cb_semirings::Semiring;
+use std::alloc::AllocError;
+
+/// Fills the two lists with the rows and values of two columns joined by a rule.
+///
+/// Costs a few instructions for each entry of the two. Once one column has ended, the rest of the other is copied or left out
+/// whole.
+pub(crate) fn join_columns<S: Semiring, R: Rule<S>>(
+    kept_rows: &mut Vec<u32>,
+    kept_values: &mut Vec<u64>,
+    left_rows: &[u32],
+    left_values: &[u64],
+    right_rows: &[u32],
+    right_values: &[u64],
+    rule: &R,
+) -> Result<(), AllocError>
+    requires left { IsSparseColumn S.arithmetic left_rows.now left_values.now }
+    requires right { IsSparseColumn S.arithmetic right_rows.now right_values.now }
+    ensures column { OnOk result (IsSparseColumn S.arithmetic kept_rows.new.items kept_values.new.items) }
+    ensures values { OnOk result (IsJoined S.arithmetic.zero (R.combined rule.now) left_rows.now left_values.now right_rows.now right_values.now kept_rows.new.items kept_values.new.items) }
+{
+    kept_rows.clear();
+    kept_values.clear();
+    let room = left_rows.len() + right_rows.len();
+    kept_rows.reserve(room)?;
+    kept_values.reserve(room)?;
+    let (x, y) = join_fronts(
+        kept_rows,
+        kept_values,
+        left_rows,
+        left_values,
+        right_rows,
+        right_values,
+        rule,
+    );
+    let (keeps_left, keeps_right) = (rule.keeps_left(), rule.keeps_right());
+    keep_rest(kept_rows, left_rows, x, keeps_left)?;
+    keep_rest(kept_values, left_values, x, keeps_left)?;
+    keep_rest(kept_rows, right_rows, y, keeps_right)?;
+    keep_rest(kept_values, right_values, y, keeps_right)
+}
+
+/// Joins the entries of two columns until one column has ended, and returns how many entries of each are joined. The two lists
+/// are empty and have room.
+fn join_fronts<S: Semiring, R: Rule<S>>(
+    kept_rows: &mut Vec<u32>,
+    kept_values: &mut Vec<u64>,
+    left_rows: &[u32],
+    left_values: &[u64],
+    right_rows: &[u32],
+    right_values: &[u64],
+    rule: &R,
+) -> (usize, usize)
+    requires left { IsSparseColumn S.arithmetic left_rows.now left_values.now }
+    requires right { IsSparseColumn S.arithmetic right_rows.now right_values.now }
+    requires no_rows { kept_rows.old.items ≡ [] }
+    requires no_values { kept_values.old.items ≡ [] }
+    requires rows_room { vec_len kept_rows.old + (length left_rows.now + length right_rows.now) ≤ vec_capacity kept_rows.old }
+    requires values_room { vec_len kept_values.old + (length left_rows.now + length right_rows.now) ≤ vec_capacity kept_values.old }
+    ensures joined { IsJoinedTo S.arithmetic (R.combined rule.now) left_rows.now left_values.now right_rows.now right_values.now result.0 result.1 kept_rows.new.items kept_values.new.items }
+    ensures ended { result.0 < length left_rows.now → length right_rows.now ≤ result.1 }
+{
+    let mut x = 0;
+    let mut y = 0;
+    while x < left_rows.len() && y < right_rows.len() {
+        let left_row = left_rows[x];
+        let right_row = right_rows[y];
+        let left_value = left_values[x];
+        let right_value = right_values[y];
+        if left_row == right_row {
+            let value = rule.combine(left_value, right_value);
+            keep_if(kept_rows, kept_values, value != S::zero(), left_row, value);
+            x += 1;
+            y += 1;
+        } else {
+            let is_left = left_row < right_row;
+            let is_kept = pick(is_left, rule.keeps_left(), rule.keeps_right());
+            let row = pick(is_left, left_row, right_row);
+            let value = pick(is_left, left_value, right_value);
+            keep_if(kept_rows, kept_values, is_kept, row, value);
+            x += usize::from(is_left);
+            y += usize::from(!is_left);
+        }
+    }
+    (x, y)
+}
+
+/// The first of two if `is_first` holds, otherwise the second.
+#[inline(always)]
+fn pick<T: Copy>(is_first: bool, first: T, second: T) -> T
+    ensures { result ≡ cond is_first first second }
+{
+    if is_first { first } else { second }
+}
+
+/// Appends an entry to two lists that have room for it, if it is kept.
+#[inline(always)]
+fn keep_if(
+    kept_rows: &mut Vec<u32>,
+    kept_values: &mut Vec<u64>,
+    is_kept: bool,
+    row: u32,
+    value: u64,
+)
+    requires rows_room { vec_len kept_rows.old < vec_capacity kept_rows.old }
+    requires values_room { vec_len kept_values.old < vec_capacity kept_values.old }
+    ensures rows { kept_rows.new.items ≡ kept_rows.old.items ++ where_kept is_kept (row ∷ []) }
+    ensures values { kept_values.new.items ≡ kept_values.old.items ++ where_kept is_kept (value ∷ []) }
+    ensures rows_capacity { vec_capacity kept_rows.new ≡ vec_capacity kept_rows.old }
+    ensures values_capacity { vec_capacity kept_values.new ≡ vec_capacity kept_values.old }
+    ensures rows_len { vec_len kept_rows.new ≤ vec_len kept_rows.old + 1 }
+    ensures values_len { vec_len kept_values.new ≤ vec_len kept_values.old + 1 }
+{
+    if is_kept {
+        kept_rows.push_reserved(row);
+        kept_values.push_reserved(value);
+    }
+}
+
+/// Appends the items from a place on, if they are kept.
+#[inline(always)]
+fn keep_rest<T: Copy>(
+    list: &mut Vec<T>,
+    items: &[T],
+    place: usize,
+    are_kept: bool,
+) -> Result<(), AllocError>
+    requires { place ≤ length items.now }
+    ensures { OnOk result (list.new.items ≡ list.old.items ++ where_kept are_kept (drop place items.now)) }
+{
+    if are_kept {
+        list.extend_from_slice(&items[place..])?;
+    }
+    Ok(())
+}
