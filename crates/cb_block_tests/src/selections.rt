@@ -351,6 +351,43 @@ const ASSIGNED: &[Case<'static>] = &[
             ],
         ),
     ),
+    // columns before, in and after the part, with rows above, in and below it, and one that the part alone has
+    (
+        Call::Assign((2, 1)),
+        &[
+            (
+                (6, 4),
+                entries![
+                    (0, 0, 1),
+                    (3, 0, 2),
+                    (5, 0, 3),
+                    (0, 1, 4),
+                    (1, 1, 5),
+                    (2, 1, 6),
+                    (3, 1, 7),
+                    (4, 1, 8),
+                    (5, 1, 9),
+                    (2, 3, 10)
+                ],
+            ),
+            ((2, 2), entries![(0, 0, 20), (1, 1, 21)]),
+        ],
+        (
+            (6, 4),
+            entries![
+                (0, 0, 1),
+                (3, 0, 2),
+                (5, 0, 3),
+                (0, 1, 4),
+                (1, 1, 5),
+                (2, 1, 20),
+                (4, 1, 8),
+                (5, 1, 9),
+                (3, 2, 21),
+                (2, 3, 10)
+            ],
+        ),
+    ),
     (Call::Assign((0, 0)), &[GIVEN, ((4, 5), &[])], ((4, 5), &[])),
     (Call::Assign((4, 5)), &[GIVEN, ((0, 0), &[])], GIVEN),
     (

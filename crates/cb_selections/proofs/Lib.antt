@@ -4,6 +4,7 @@
 -- numbers. ListMade: a column that is made row by row. PairedRows, PairedColumns: those of a Kronecker product.
 -- FunctionResults: the results of a function in place of values. UpdatedPlaces: a matrix updated by another one, place by place. PowerSteps: powers, one product
 -- after another.
+mod AroundRanges
 mod AssignedPart
 mod FunctionResults
 mod RegionValues

@@ -39,7 +39,7 @@ range_long xs start end l = simp (length-take, length-drop) (omega arith)
 
 module _ (z i : ℕ) where
   -- the value at a row that isn't among the first is that of the rest
-  past_first : (n : ℕ) (rs vs : List ℕ) → length vs ≡ length rs → ((k : ℕ) → k < n → k < length rs → get_or rs k 0 ≢ i) → row_value z (drop n rs) (drop n vs) i ≡ row_value z rs vs i
+  pub past_first : (n : ℕ) (rs vs : List ℕ) → length vs ≡ length rs → ((k : ℕ) → k < n → k < length rs → get_or rs k 0 ≢ i) → row_value z (drop n rs) (drop n vs) i ≡ row_value z rs vs i
   unfolding row_value
   past_first zero rs vs e h = refl
   past_first (suc n) [] vs e h = refl

@@ -1,5 +1,5 @@
 -- Selections, each by the value that it has at each place, and the Kronecker product.
-use Rattle.std.specs.Prelude.{◌≡◌, ℕ, cond, ◌-◌, ◌==◌, ◌*◌, ◌/◌, ◌%◌, min, map, List, length, slice_index}
+use Rattle.std.specs.Prelude.{◌≡◌, ℕ, cond, not, ◌-◌, ◌==◌, ◌*◌, ◌/◌, ◌%◌, min, map, List, length, slice_index}
 use Rattle.cb_semirings.specs.Arithmetic.{Arithmetic}
 use Rattle.cb_matrix.specs.declared.Entry.{Entry}
 use Rattle.cb_matrix.specs.Sparse.{Sparse, Extent, at}
@@ -46,6 +46,10 @@ rows_by s rows a =
 abbrev pub columns_by : Arithmetic → List ℕ → Sparse → Sparse
 columns_by s cols a =
     matrix_of s (record { rows = a.shape.rows; cols = length cols }) (λ i j. at s a i (slice_index cols j))
+
+-- a matrix without its part of some shape that begins at a corner
+abbrev pub outside : Arithmetic → ℕ × ℕ → Extent → Sparse → Sparse
+outside s corner part a = matrix_of s a.shape (λ i j. where_true s.zero (not (is_covered corner part i j)) (at s a i j))
 
 -- a matrix whose part that begins at a corner is replaced by another matrix, b
 abbrev pub assigned : Arithmetic → ℕ × ℕ → Sparse → Sparse → Sparse

@@ -1,11 +1,8 @@
 use Rattle.std.proofs.Common.{◌≡◌, ap, ◌∙◌}
-use Rattle.std.specs.Prelude.{not}
 use Rattle.std.proofs.lemmas.Result.{IfOk-weaker}
-use Rattle.cb_matrix.specs.Operations.{is_covered, placed, sum_of}
+use Rattle.cb_matrix.specs.Operations.{placed, sum_of}
 use Rattle.cb_matrix.specs.Sparse.{Sparse, Extent}
-use Rattle.cb_elementwise.specs.Replaced.{replaced}
-use Rattle.cb_selections.specs.Regions.{where_true}
-use Rattle.cb_selections.specs.Selections.{assigned}
+use Rattle.cb_selections.specs.Selections.{assigned, outside}
 use Rattle.cb_selections.proofs.AssignedPart.{assigned_is}
 use Rattle.cb_selections.proofs.assignments.assign.Goals as goal
 
@@ -15,13 +12,13 @@ returns g c =
     let a = c.args.block.now in
     let b = c.args.part.now in
     let corner = c.args.corner in
-    let around : Extent → Sparse = λ d. replaced s (λ i j x. where_true s.zero (not (is_covered corner d i j)) x) a in
+    let around : Extent → Sparse = λ d. outside s corner d a in
     let inside : Extent → Sparse = λ d. placed s d corner b in
-    let part_shape : c.shape-shape.result ≡ b.shape = c.shape-shape.ensures.shape in
+    let part_shape : c.shape.result ≡ b.shape = c.shape.ensures.shape in
     let whole_shape : c.shape-whole.result ≡ a.shape = c.shape-whole.ensures.shape in
     let around_is : c.in_ok-around.around ≡ around b.shape = c.in_ok-around.ensures ∙ ap around part_shape in
     let inside_is : c.in_ok-inside.inside ≡ inside a.shape = c.in_ok-inside.ensures ∙ ap inside whole_shape in
     let made : sum_of s c.in_ok-around.around c.in_ok-inside.inside ≡ assigned s corner b a =
     ap (λ x. sum_of s x c.in_ok-inside.inside) around_is ∙ ap (sum_of s (around b.shape)) inside_is
-    ∙ assigned_is s g.met.S.Semiring.is_semiring corner b a c.shape-shape.ensures.matrix c.shape-whole.ensures.matrix in
+    ∙ assigned_is s g.met.S.Semiring.is_semiring corner b a c.shape.ensures.matrix c.shape-whole.ensures.matrix in
     IfOk-weaker c.add.result (λ m. m ≡ sum_of s c.in_ok-around.around c.in_ok-inside.inside) (λ m. m ≡ assigned s corner b a) (λ m is. is ∙ made) c.add.ensures
