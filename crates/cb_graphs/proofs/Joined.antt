@@ -1,7 +1,7 @@
--- Labels that have spread are the least vertices of the components.
-use Rattle.std.proofs.Common.{◌≡◌, ◌≢◌, ℕ, ◌<◌, ◌≤◌, true, false, cond, ⊎_elim, List, [], ◌∷◌, length, get_or, subst, sym, refl, ap, ◌∙◌, arith}
-use Rattle.std.specs.Prelude.{All, AllPairs, Contains, ◌==◌}
-use Rattle.std.proofs.lemmas.Bool.{cases_eq, cases_lt, eq-eqb, eqb-true}
+-- The roots of trees that span the graph are the least vertices of the components.
+use Rattle.std.proofs.Common.{◌≡◌, ◌≢◌, ℕ, ◌<◌, true, false, cond, ⊎_elim, List, [], ◌∷◌, length, get_or, subst, sym, refl, ap, ◌∙◌, arith}
+use Rattle.std.specs.Prelude.{All, Contains, ◌==◌}
+use Rattle.std.proofs.lemmas.Bool.{cases_eq, eq-eqb, eqb-true}
 use Rattle.std.proofs.lemmas.List.{length-map, get_or_default}
 use Rattle.std.proofs.lemmas.List.Elements.{All-nil, All-cons, All-head, All-filter, All-weaker, All-get_or, All-contains, Contains-get_or, filter_passes}
 use Rattle.std.proofs.lemmas.Option.{none-some, same_Some}
@@ -10,11 +10,14 @@ use Rattle.cb_matrix.specs.declared.Entry.{Entry}
 use Rattle.cb_matrix.specs.Sparse.{Sparse, IsMatrix, at}
 use Rattle.cb_dcsc.specs.Columns.{in_column, rows_of, columns_with_entries}
 use Rattle.cb_dcsc.proofs.NumbersOfColumns.{columns_all}
+use Rattle.cb_dcsc.proofs.Lookup.{rows_inside}
 use Rattle.cb_searches.specs.Walks.{IsWalk, infinite, column_shape}
 use Rattle.cb_searches.proofs.ColumnEdges.{edge_row, row_edge}
 use Rattle.cb_searches.proofs.WalkCosts.{walk_edge, walk_rest, walk_first}
-use Rattle.cb_graphs.specs.Components.{undirected, IsLeastJoined, AreComponents}
-use Rattle.cb_graphs.specs.Floods.{IsUndirected, IsSpread, IsNext, AreSpread}
+use Rattle.cb_graphs.specs.Components.{undirected, AreJoined, HasEntry, IsLeastJoined, AreComponents, IsUndirected}
+use Rattle.cb_graphs.specs.Forests.{IsConstant, IsReached, IsSpanning, AreTrees, KeepsTrees, IsFlat}
+use Rattle.cb_graphs.proofs.Undirected.{either_way, one_way, undirected_both}
+use Rattle.cb_graphs.proofs.Trees.{joined_more}
 
 -- ---- the columns that have entries
 listed_first : (cs : List ℕ) (v : ℕ) (es : List Entry) → All (λ e. Contains cs e.column) es → All (λ e. (e.column == v) ≡ true) es → 0 < length es → Contains cs v
@@ -43,26 +46,6 @@ module _ (s : Sparse) (is_s : IsMatrix or_and s) (cs : List ℕ) (held : All (λ
       listed_first cs v (in_column v s.entries) (All-filter (λ e. e.column == v) (λ e. Contains cs e.column) s.entries held) (filter_passes (λ e. e.column == v) s.entries)
       (omega (arith, l, length-map (in_column v s.entries) (λ (e : Entry). e.row)))
 
-  -- if all columns before the nth have a label, every column without one is at least the nth
-  pub next_listed : (d : ℕ → ℕ) (n : ℕ) → n < length cs → AllPairs (λ c d. c < d) cs → ((k : ℕ) → k < n → d (get_or cs k 0) ≢ infinite) → IsNext s d (get_or cs n 0)
-  next_listed d n inside up before v u free edge =
-      let there : Contains cs v = edge_listed u v edge in
-      let here : get_or cs there.0 0 ≡ v = get_or_default cs there.0 0 v there.1 ∙ there.2 in
-      ⊎_elim
-      (λ (l : there.0 < n). absurd (before there.0 l (ap d here ∙ free)))
-      (λ (l : n ≤ there.0). ⊎_elim
-      (λ (k : n < there.0). let less : get_or cs n 0 < get_or cs there.0 0 = up n there.0 0 k there.1 in omega (arith, less, here))
-      (λ (k : there.0 ≤ n). let same : n ≡ there.0 = omega arith in omega (arith, ap (λ (i : ℕ). get_or cs i 0) same, here))
-      (cases_lt n there.0))
-      (cases_lt there.0 n)
-
-  -- in the end each vertex that has entries has a label
-  pub all_listed : (d : ℕ → ℕ) (n : ℕ) → length cs ≤ n → ((k : ℕ) → k < n → d (get_or cs k 0) ≢ infinite) → (v u : ℕ) → at or_and s u v ≢ 0 → d v ≢ infinite
-  all_listed d n end before v u edge none =
-      let there : Contains cs v = edge_listed u v edge in
-      let l : there.0 < length cs = there.1 in
-      before there.0 (omega (arith, l, end)) (ap d (get_or_default cs there.0 0 v there.1 ∙ there.2) ∙ none)
-
 in_first : (es : List Entry) → 0 < length es → Contains (rows_of es) (get_or (rows_of es) 0 0)
 in_first es some = Contains-get_or (rows_of es) 0 0 (omega (arith, some, length-map es (λ (e : Entry). e.row)))
 
@@ -75,44 +58,75 @@ column_edge s is_s cs same n l =
     let u = get_or (rows_of (in_column v s.entries)) 0 0 in
     (u, row_edge s is_s u v (in_first (in_column v s.entries) some))
 
--- ---- walks
-module _ (s : Sparse) (both : IsUndirected s) (d : ℕ → ℕ) (is : AreSpread s d) where
-  neighbour_same : (y x : ℕ) → d y ≢ infinite → at or_and s y x ≢ 0 → d x ≡ d y
-  neighbour_same y x some edge =
-      ⊎_elim
-      (λ (h : Contains [] y). absurd (let l : h.0 < length {A = ℕ} [] = h.1 in omega arith))
-      (λ (h : IsSpread s d y). h x edge)
-      (is.labels.spread y some)
-
-  -- both ends of a walk have the same label
-  same_along : (u v : ℕ) (walk : List ℕ) → IsWalk or_and s u v walk → d v ≢ infinite → d u ≡ d v
-  same_along u v [] w some = absurd (none-some u w.begins)
-  same_along u v (x ∷ []) w some = ap d (sym (same_Some x u w.begins) ∙ same_Some x v w.ends)
-  same_along u v (x ∷ y ∷ ys) w some =
-      let later : d y ≡ d v = same_along y v (y ∷ ys) (walk_rest or_and s u v x y ys w) some in
-      let step : d x ≡ d y = neighbour_same y x (λ q. some (sym later ∙ q)) (both x y (walk_edge or_and s u v x y ys w)) in
-      ap d (sym (walk_first or_and s u v x (y ∷ ys) w)) ∙ step ∙ later
-
--- a column of the labels is a column of the components
-pub components_are : (a : Sparse) → IsUndirected (undirected a) → (d : ℕ → ℕ) → AreSpread (undirected a) d → (column : Sparse) → column.shape ≡ column_shape a → ((v : ℕ) → at min_plus column v 0 ≡ d v) → AreComponents a column
-components_are a both d is column shape values = record {
-  shape = shape;
-  least = λ v entry.
-      let some : d v ≢ infinite = is.all v entry.0 entry.1 in
-      subst (λ (u : ℕ). IsLeastJoined a u v) (sym (values v))
-      (record {
-        joined = is.labels.joined v some;
-        least = λ w joined.
-            let same : d w ≡ d v = same_along (undirected a) both d is w v joined.0 joined.1 some in
-            omega (arith, same, is.labels.low w (λ q. some (sym same ∙ q)));
-      });
-  none = λ v bare. values v ∙ ⊎_elim (λ (q : d v ≡ infinite). q) (λ (some : d v ≡ infinite → ⊥). absurd (bare (is.labels.entered v some))) (cases_eq (d v) infinite);
-}
+-- what holds of the rows of each listed column holds of all entries
+pub each_edge : (s : Sparse) (is : IsMatrix or_and s) (vs : List ℕ) → All (λ e. Contains vs e.column) s.entries → (P : ℕ → ℕ → Type 0) → ((k : ℕ) → k < length vs → All (λ u. P u (get_or vs k 0)) (rows_of (in_column (get_or vs k 0) s.entries))) → (u v : ℕ) → at or_and s u v ≢ 0 → P u v
+each_edge s is vs held P each u v edge =
+    let there : Contains vs v = edge_listed s is vs held u v edge in
+    let here : get_or vs there.0 0 ≡ v = get_or_default vs there.0 0 v there.1 ∙ there.2 in
+    All-contains (λ u. P u v) (rows_of (in_column v s.entries)) u
+    (subst (λ (w : ℕ). All (λ u. P u w) (rows_of (in_column w s.entries))) here (each there.0 there.1)) (edge_row s is u v edge)
 
 -- if the entries of each listed column have one in the other direction, all entries do
 pub meet_all : (s : Sparse) (is : IsMatrix or_and s) (vs : List ℕ) → All (λ e. Contains vs e.column) s.entries → ((k : ℕ) → k < length vs → All (λ u. at or_and s (get_or vs k 0) u ≢ 0) (rows_of (in_column (get_or vs k 0) s.entries))) → IsUndirected s
-meet_all s is vs held met u v edge =
-    let there : Contains vs v = edge_listed s is vs held u v edge in
-    let here : get_or vs there.0 0 ≡ v = get_or_default vs there.0 0 v there.1 ∙ there.2 in
-    All-contains (λ u. at or_and s v u ≢ 0) (rows_of (in_column v s.entries)) u
-    (subst (λ (w : ℕ). All (λ u. at or_and s w u ≢ 0) (rows_of (in_column w s.entries))) here (met there.0 there.1)) (edge_row s is u v edge)
+meet_all s is vs held met = each_edge s is vs held (λ u v. at or_and s v u ≢ 0) met
+
+-- the vertices from which edges lead to v have entries, and what is joined to v is joined to them
+pub reached_rows : (a : Sparse) (is_a : IsMatrix or_and a) (square : a.shape.rows ≡ a.shape.cols) (root v : ℕ) (rows : List ℕ) → rows ≡ rows_of (in_column v a.entries) → AreJoined a root v → All (IsReached a root) rows
+reached_rows a is_a square root v rows same joined k d l =
+    let u = get_or rows k d in
+    let there : at or_and a u v ≢ 0 = row_edge a is_a u v (subst (λ (xs : List ℕ). Contains xs u) same (Contains-get_or rows k d l)) in
+    let back : at or_and (undirected a) v u ≢ 0 = undirected_both a is_a square u v (one_way a is_a square u v there) in
+    record {
+      inside = rows_inside or_and a v rows is_a same k d l;
+      entered = (v, back);
+      joined = joined_more a root v u joined back;
+    }
+
+-- the vertex of each column that has entries has an entry
+pub column_entered : (a : Sparse) (is_a : IsMatrix or_and a) (square : a.shape.rows ≡ a.shape.cols) (cs : List ℕ) → cs ≡ columns_with_entries a.entries → (n : ℕ) → n < length cs → HasEntry a (get_or cs n 0)
+column_entered a is_a square cs same n l =
+    let edge = column_edge a is_a cs same n l in
+    (edge.0, one_way a is_a square edge.0 (get_or cs n 0) edge.1)
+
+-- ---- walks
+-- Trees that span the graph, with all paths short: the parent of each vertex is the least vertex of its component.
+module _ (a : Sparse) (is_a : IsMatrix or_and a) (square : a.shape.rows ≡ a.shape.cols) (first p : ℕ → ℕ) (spans : IsSpanning a first) (keeps : KeepsTrees first p) (trees : AreTrees a p) (flat : (v : ℕ) → first v ≢ infinite → IsFlat p v) where
+  -- each vertex that has entries is in a tree
+  entered_first : (v : ℕ) → HasEntry a v → first v ≢ infinite
+  entered_first v entry = ⊎_elim
+      (λ (there : at or_and a entry.0 v ≡ 0 → ⊥). (spans entry.0 v there).second)
+      (λ (back : at or_and a v entry.0 ≡ 0 → ⊥). (spans v entry.0 back).first)
+      (either_way a is_a square entry.0 v entry.1)
+
+  constant : IsConstant p p
+  constant v some = flat v (entered_first v (trees.entered v some))
+
+  edge_same : (u v : ℕ) → at or_and (undirected a) u v ≢ 0 → p u ≡ p v
+  edge_same u v edge = ⊎_elim
+      (λ (there : at or_and a u v ≡ 0 → ⊥). (spans u v there).same p (keeps.constant p constant))
+      (λ (back : at or_and a v u ≡ 0 → ⊥). sym ((spans v u back).same p (keeps.constant p constant)))
+      (either_way a is_a square u v edge)
+
+  -- both ends of a walk have the same root
+  same_along : (u v : ℕ) (walk : List ℕ) → IsWalk or_and (undirected a) u v walk → p u ≡ p v
+  same_along u v [] w = absurd (none-some u w.begins)
+  same_along u v (x ∷ []) w = ap p (sym (same_Some x u w.begins) ∙ same_Some x v w.ends)
+  same_along u v (x ∷ y ∷ ys) w =
+      ap p (sym (walk_first or_and (undirected a) u v x (y ∷ ys) w)) ∙ edge_same x y (walk_edge or_and (undirected a) u v x y ys w)
+      ∙ same_along y v (y ∷ ys) (walk_rest or_and (undirected a) u v x y ys w)
+
+  -- a column of the roots is a column of the components
+  pub components_are : (column : Sparse) → column.shape ≡ column_shape a → ((v : ℕ) → at min_plus column v 0 ≡ p v) → AreComponents a column
+  components_are column shape values = record {
+    shape = shape;
+    least = λ v entry.
+        let some : p v ≢ infinite = keeps.kept v (entered_first v entry) in
+        subst (λ (u : ℕ). IsLeastJoined a u v) (sym (values v))
+        (record {
+          joined = trees.joined v some;
+          least = λ w joined.
+              let same : p w ≡ p v = same_along w v joined.0 joined.1 in
+              omega (arith, same, trees.low w (λ q. some (sym same ∙ q)));
+        });
+    none = λ v bare. values v ∙ ⊎_elim (λ (q : p v ≡ infinite). q) (λ (some : p v ≡ infinite → ⊥). absurd (bare (trees.entered v some))) (cases_eq (p v) infinite);
+  }

@@ -1,11 +1,12 @@
--- For this crate alone. Undirected: the sum of a matrix and its transpose. Flooded: a label that spreads. Joined: labels
--- that have spread are the least vertices of components. Counting: sums over ranges and over lists. AnyOrder: joined
+-- For this crate alone. Undirected: the sum of a matrix and its transpose. Trees: trees of vertices. FlatTrees: trees in which all paths are short. Joined: the roots of trees
+-- that span the graph are the least vertices of components. Counting: sums over ranges and over lists. AnyOrder: joined
 -- triples are counted alike in every order. Listed: numbers that lists have in common. Later: orders of places. GrownLists:
 -- one more list after others. Beside: lists of the places of neighbours. Apexes: all triangles, and those of one
 -- vertex, by the places of their vertices. DegreeCounts, RowCounts: how many entries a column
 -- and a row has.
 pub mod Undirected
-pub mod Flooded
+pub mod Trees
+pub mod FlatTrees
 pub mod Joined
 pub mod Counting
 pub mod AnyOrder

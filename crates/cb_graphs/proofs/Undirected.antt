@@ -1,5 +1,5 @@
 -- The sum of a square matrix and its transpose has each entry in both directions.
-use Rattle.std.proofs.Common.{◌≡◌, ℕ, ◌<◌, ◌≤◌, ⊎_elim, ap, ◌∙◌, arith}
+use Rattle.std.proofs.Common.{◌≡◌, ℕ, ◌<◌, ◌≤◌, ◌⊎◌, inl, inr, ◌≢◌, ⊎_elim, ap, ◌∙◌, arith}
 use Rattle.std.specs.Prelude.{max}
 use Rattle.std.proofs.lemmas.Bool.{cases_eq, cases_lt}
 use Rattle.cb_semirings.specs.Tables.{or_and}
@@ -8,8 +8,7 @@ use Rattle.cb_matrix.specs.Sparse.{Sparse, Extent, IsMatrix, at}
 use Rattle.cb_matrix.specs.Operations.{transposed}
 use Rattle.cb_matrix.proofs.Made.{at-matrix_of, at-outside, shape-matrix_of, same_matrix, IsMatrix-matrix_of}
 use Rattle.cb_matrix.proofs.Totals.{value_at-value}
-use Rattle.cb_graphs.specs.Components.{undirected}
-use Rattle.cb_graphs.specs.Floods.{IsUndirected}
+use Rattle.cb_graphs.specs.Components.{undirected, IsUndirected}
 
 module _ (a : Sparse) (is : IsMatrix or_and a) (square : a.shape.rows ≡ a.shape.cols) where
   bit : (i j : ℕ) → at or_and a i j < 2
@@ -59,3 +58,32 @@ module _ (a : Sparse) (is : IsMatrix or_and a) (square : a.shape.rows ≡ a.shap
       (cases_eq (at or_and a j i) 0))
       (λ (some : at or_and a i j ≡ 0 → ⊥). omega (arith, some, bit i j, bit j i))
       (cases_eq (at or_and a i j) 0))
+
+  none_either_way : (u v : ℕ) → at or_and a u v ≡ 0 → at or_and a v u ≡ 0 → at or_and (undirected a) u v ≡ 0
+  none_either_way u v there back =
+      ⊎_elim
+      (λ (l : u < a.shape.rows). ⊎_elim
+      (λ (k : v < a.shape.rows). omega (arith, there, back, undirected_at u v l k))
+      (λ (k : a.shape.rows ≤ v). outside u v (λ _ m. omega (arith, square)))
+      (cases_lt v a.shape.rows))
+      (λ (l : a.shape.rows ≤ u). outside u v (λ m _. omega arith))
+      (cases_lt u a.shape.rows)
+
+  -- each entry of the sum is one in either direction
+  pub either_way : (u v : ℕ) → at or_and (undirected a) u v ≢ 0 → (at or_and a u v ≢ 0) ⊎ (at or_and a v u ≢ 0)
+  either_way u v some =
+      ⊎_elim
+      (λ (none : at or_and a u v ≡ 0). inr (λ back. some (none_either_way u v none back)))
+      (λ (there : at or_and a u v ≡ 0 → ⊥). inl there)
+      (cases_eq (at or_and a u v) 0)
+
+  -- each entry is one of the sum
+  pub one_way : (u v : ℕ) → at or_and a u v ≢ 0 → at or_and (undirected a) u v ≢ 0
+  one_way u v some none =
+      ⊎_elim
+      (λ (l : u < a.shape.rows). ⊎_elim
+      (λ (k : v < a.shape.rows). some (omega (arith, none, undirected_at u v l k)))
+      (λ (k : a.shape.rows ≤ v). some (at-outside 0 a.shape a.entries u v is.inside (λ _ m. omega (arith, square))))
+      (cases_lt v a.shape.rows))
+      (λ (l : a.shape.rows ≤ u). some (at-outside 0 a.shape a.entries u v is.inside (λ m _. omega arith)))
+      (cases_lt u a.shape.rows)

@@ -9,6 +9,10 @@ use Rattle.cb_searches.specs.Walks.{IsWalk, infinite, column_shape}
 abbrev pub undirected : Sparse → Sparse
 undirected a = sum_of or_and a (transposed or_and a)
 
+-- each entry has one in the other direction
+abbrev pub IsUndirected : Sparse → Type 0
+IsUndirected s = (u v : ℕ) → at or_and s u v ≢ 0 → at or_and s v u ≢ 0
+
 -- a vertex has an entry in its row or its column
 abbrev pub HasEntry : Sparse → ℕ → Type 0
 HasEntry a v = (u : ℕ) × (at or_and (undirected a) u v ≢ or_and.zero)

@@ -1,4 +1,4 @@
-//! Whether a block has each entry in both directions already.
+//! Whether a block has each entry in both directions already, and a block that does.
 //!
 //! The columns are visited in ascending order. The counterpart of entry (i, j) is entry (j, i), in column i. As j ascends,
 //! the counterparts in column i come in the order of its entries. So each has to be the first entry of its column that
@@ -6,7 +6,7 @@
 ghost use Rattle.std.specs.Prelude.{◌≡◌, ◌≢◌, true, length, All, IfOk};
 ghost use Rattle.cb_semirings.specs.Tables.{or_and};
 ghost use Rattle.cb_matrix.specs.Sparse.{at};
-ghost use Rattle.cb_graphs.specs.Floods.{IsUndirected};
+ghost use Rattle.cb_graphs.specs.Components.{undirected, IsUndirected};
 ghost use Rattle.cb_graphs.specs.Neighbours.{vertex_count};
 
 use crate::neighbours::places;
@@ -26,6 +26,15 @@ pub(crate) fn is_undirected(alloc: Global, graph: &Block<OrAnd>) -> Result<bool,
     let places = places(alloc, graph)?;
     let mut met = vec![in alloc; 0usize; graph.columns()]?;
     Ok(all_meet(graph, &places, &mut met))
+}
+
+/// The sum of a block and its transpose, which has each entry in both directions.
+pub(crate) fn both_ways(alloc: Global, graph: &Block<OrAnd>) -> Result<Block<OrAnd>, AllocError>
+    requires square { graph.now.shape.rows ≡ graph.now.shape.cols }
+    ensures { IfOk result (λ both. both ≡ undirected graph.now) }
+{
+    let turned = cb_reshape::transpose(alloc, graph)?;
+    cb_elementwise::add(alloc, graph, &turned)
 }
 
 /// Whether each entry has one in the other direction.
