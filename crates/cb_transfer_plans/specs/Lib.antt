@@ -1,0 +1,2 @@
+-- WholeStarts: the starts by which each rank has a whole block.
+pub mod WholeStarts
