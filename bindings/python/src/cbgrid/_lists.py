@@ -107,10 +107,8 @@ def _lend_lists(
     return lent
 
 
-def lend(
-    matrix: Any, semiring: int, turned: bool, unsigned: bool, nonzero: bool = False, in_order: bool = False
-) -> Columns:
-    """Passes a matrix, or its transpose if `turned`, as lists.
+def lend(matrix: Any, turned: bool, unsigned: bool, nonzero: bool = False, in_order: bool = False) -> Columns:
+    """Passes a matrix, or its transpose if `turned`, as lists: of columns or, if scipy lists the others, of rows.
 
     `unsigned` refuses negative values. `nonzero` passes 1 for each value that isn't 0. `in_order` sorts the entries and
     adds up duplicates; without it the kernel may find that they aren't sorted.
@@ -121,7 +119,9 @@ def lend(
     if form == "coo":
         return _lend_coordinates(matrix, turned, unsigned, nonzero, in_order)
     if form != ("csr" if turned else "csc"):
-        return _lend_transposed(matrix, semiring, turned, unsigned, nonzero, in_order)
+        lent = lend(matrix, not turned, unsigned, nonzero, in_order)
+        lent.by_rows = True
+        return lent
     if in_order:
         matrix = _checked(matrix).copy()
         matrix.sum_duplicates()
@@ -136,22 +136,6 @@ def lend(
         check_unsigned(values)
     rows, values = _placed(_index32(rows, nrows)), _ones(values) if nonzero else _placed(values)
     return _lend_lists(nrows, ncols, None, _placed(starts), rows, values)
-
-
-def _lend_transposed(
-    matrix: Any, semiring: int, turned: bool, unsigned: bool, nonzero: bool, in_order: bool
-) -> Columns:
-    """Passes a csr matrix by columns, or a csc matrix by rows if `turned`: the kernel transposes it."""
-    answer = Answer()
-    lent = lend(matrix, semiring, not turned, unsigned, nonzero, in_order)
-    code = library.cbgrid_transpose(semiring, 1, lent, answer.columns)
-    if code == ORDER and not in_order:
-        return _lend_transposed(matrix, semiring, turned, unsigned, nonzero, True)
-    if code:
-        raise error(code)
-    made = Columns.from_buffer_copy(answer.columns)
-    made.kept = (answer,)
-    return made
 
 
 def _ones(values: np.ndarray) -> np.ndarray:

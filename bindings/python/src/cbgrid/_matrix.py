@@ -10,7 +10,7 @@ import numpy as np
 import scipy.sparse
 
 from . import _lists
-from ._library import LENGTHS, LIMIT, ORDER, PLACE, SEMIRING, SHAPES, TEST, TOO_LARGE, VALUE, Text, error, library
+from ._library import FORMAT, LENGTHS, LIMIT, ORDER, PLACE, SEMIRING, SHAPES, TEST, TOO_LARGE, VALUE, How, Text, error, library
 
 # The semirings in the order of their numbers.
 _NAMES = (
@@ -149,6 +149,11 @@ class Matrix:
             raise error(code)
         return cls._of(out.value, number)
 
+    def give(self) -> int:
+        """The address of the kept matrix, which this object gives up."""
+        at, self._at = self._at, None
+        return at
+
     def __del__(self, free: Any = library.cbgrid_matrix_free) -> None:
         at = getattr(self, "_at", None)
         if at:
@@ -247,7 +252,8 @@ class Matrix:
         lists = rows.ctypes.data, len(rows), columns.ctypes.data, len(columns)
         return self._made(library.cbgrid_matrix_extract, *lists)
 
-    def _lists(self) -> _lists.Answer:
+    def lists(self) -> _lists.Answer:
+        """A copy of the lists of the columns."""
         answer = _lists.Answer()
         code = library.cbgrid_matrix_columns(self._at, answer.columns)
         if code:
@@ -265,16 +271,16 @@ class Matrix:
             raise TypeError(f"format: csc, csr or coo is wanted, not {format}")
         if format == "csr":
             like = scipy.sparse.csr_array((0, 0), dtype=dtype)
-            made = _lists.matrix_of(self.T._lists(), like, turned=True)
+            made = _lists.matrix_of(self.T.lists(), like, turned=True)
         else:
             like = (scipy.sparse.csc_array if format == "csc" else scipy.sparse.coo_array)((0, 0), dtype=dtype)
-            made = _lists.matrix_of(self._lists(), like, turned=False)
+            made = _lists.matrix_of(self.lists(), like, turned=False)
         _lists.check_signed(made.data)
         return made
 
     def to_triples(self) -> tuple[np.ndarray, np.ndarray, np.ndarray]:
         """The rows, the columns and the values of the entries, by column and then by row."""
-        answer = self._lists()
+        answer = self.lists()
         starts = answer.starts()
         columns = answer.stored().repeat(starts[1:] - starts[:-1]) if len(starts) else answer.stored()
         return answer.rows(), columns, answer.values(_UINT64)
@@ -324,7 +330,7 @@ class Matrix:
         ----------
         region : {"lower", "upper", "diagonal", "off-diagonal"}
             The lower triangle (diagonal k and everything below it), the upper triangle (diagonal k and everything above
-            it), diagonal k, or everything but diagonal k. Any other name raises a CbgridValueError with code 3.
+            it), diagonal k, or everything but diagonal k. Any other name raises a CbgridValueError with code 2.
         k : int
             The number of a diagonal: 0 is the main diagonal, 1 the one above it, -1 the one below it. Any integer is
             allowed; a diagonal outside the matrix has no entries.
@@ -350,7 +356,7 @@ class Matrix:
         function : {"constant", "sum", "left-product", "right-product", "row", "column"}
             `number` itself; the semiring's sum of the value and `number`; its product of `number` and the value, or of
             the value and `number`; the row of the entry, or its column, counted from 0. Any other name raises a
-            CbgridValueError with code 3.
+            CbgridValueError with code 2.
         number : int
             A value of the semiring, 0 to 2**64 - 1; any other raises a CbgridValueError with code 9. "row" and "column"
             ignore it, but raise the same error if the number of the last row or column isn't a value of the semiring:
@@ -403,7 +409,7 @@ class Matrix:
         Parameters
         ----------
         other : Matrix or scipy.sparse matrix, or numpy array of two dimensions
-            A Matrix over another semiring raises a CbgridValueError with code 16; a product with more than 2**31 - 1
+            A Matrix over another semiring raises a CbgridValueError with code 3; a product with more than 2**31 - 1
             rows or columns raises one with code 5.
         """
         operand = self._wanted(other, "other")
@@ -419,7 +425,7 @@ class Matrix:
             Where the part begins, counted from 0. If it ends beyond this matrix, a CbgridValueError with code 8 is
             raised.
         part : Matrix or scipy.sparse matrix, or numpy array of two dimensions
-            A Matrix over another semiring raises a CbgridValueError with code 16.
+            A Matrix over another semiring raises a CbgridValueError with code 3.
         """
         corner = operator.index(row), operator.index(column)
         operand = self._wanted(part, "part")
@@ -434,7 +440,7 @@ class Matrix:
         ----------
         mask : Matrix or scipy.sparse matrix, or numpy array of two dimensions
             Its values don't matter. A mask of another shape raises a CbgridValueError with code 10, and a Matrix over
-            another semiring one with code 16.
+            another semiring one with code 3.
         """
         operand = self._wanted(mask, "mask")
         return self._made(library.cbgrid_matrix_exclude, operand._at)
@@ -463,7 +469,7 @@ class Matrix:
         Raises
         ------
         CbgridValueError
-            Code 10 if the shapes differ, code 16 if the semirings differ.
+            Code 10 if the shapes differ, code 3 if the semirings differ.
         """
         written = self._wanted(new, "new")
         kept = None if mask is None else self._wanted(mask, "mask")
@@ -476,7 +482,7 @@ class Matrix:
         Raises
         ------
         CbgridValueError
-            Code 3 if there are no factors, or more than 2**32 - 1; code 11 if the matrix isn't square.
+            Code 2 if there are no factors, or more than 2**32 - 1; code 11 if the matrix isn't square.
         """
         factors = operator.index(factors)
         if not 0 < factors < 2**32:
@@ -522,14 +528,15 @@ class Matrix:
     def __matmul__(self, other: Any) -> Any:
         if isinstance(other, np.ndarray) and other.ndim == 1:
             return self._by_array(other)
-        return self._pair(library.cbgrid_matrix_multiply, other)
+        operand = self._operand(other)
+        return NotImplemented if operand is None else self.multiply(operand)
 
     def _by_array(self, x: np.ndarray) -> np.ndarray:
         """The product with an array of one dimension, as an array."""
         if len(x) != self.shape[1]:
             raise error(SHAPES)
         column = Matrix(whole_numbers(x, "x").reshape(-1, 1), self.semiring)
-        return self._made(library.cbgrid_matrix_vector, column._at).to_numpy()[:, 0]
+        return self.multiply(column).to_numpy()[:, 0]
 
     def __rmatmul__(self, other: Any) -> Any:
         operand = self._operand(other)
@@ -561,24 +568,18 @@ class Matrix:
         `transpose_right` this matrix or the other one is transposed first.
 
         The product is computed by up to `threads` threads, 1 or more, of which at most 256 are used; the result is the
-        same. One thread computes a product of transposes without a mask.
+        same.
         """
         threads = operator.index(threads)
         if threads < 1:
             raise ValueError(f"threads: 1 or more is wanted, not {threads}")
-        count = min(threads, 2**32 - 1)
         operand = self._wanted(other, "b")
-        if mask is None:
-            if transpose_left or transpose_right:
-                return self._made(
-                    library.cbgrid_matrix_multiply_turned, bool(transpose_left), operand._at, bool(transpose_right)
-                )
-            return self._made(library.cbgrid_matrix_multiply_threads, operand._at, count)
-        left, right = self.T if transpose_left else self, operand.T if transpose_right else operand
-        kept = self._wanted(mask, "mask")
-        if complement:
-            return left._made(library.cbgrid_matrix_multiply_outside_threads, right._at, kept._at, count)
-        return left._made(library.cbgrid_matrix_multiply_masked_threads, right._at, kept._at, count)
+        kept = None if mask is None else self._wanted(mask, "mask")
+        if complement and kept is None:
+            raise TypeError("complement: a mask is wanted")
+        covered = None if kept is None else kept._at
+        how = How(covered, bool(complement), bool(transpose_left), bool(transpose_right), min(threads, 2**32 - 1))
+        return self._made(library.cbgrid_matrix_multiply, operand._at, how)
 
     def _wanted(self, other: Any, name: str) -> Matrix:
         operand = self._operand(other)
@@ -690,9 +691,7 @@ def _from_triples(rows: Any, columns: Any, values: Any, shape: Any, semiring: st
 
 def _kept_again(matrix: Matrix) -> int:
     """The address of a copy, which is the transpose of the transpose."""
-    turned = matrix.T.T
-    at, turned._at = turned._at, None
-    return at
+    return matrix.T.T.give()
 
 
 def _kept(source: Any, number: int) -> int:
@@ -712,15 +711,32 @@ def _kept(source: Any, number: int) -> int:
         else:
             shown.indptr, shown.indices, shown.data = source.indptr, source.indices, values
         source = shown
-    call = library.cbgrid_matrix_of_rows if form == "csr" else library.cbgrid_matrix_of_columns
-    out = _void()
-    how = {"semiring": number, "turned": form == "csr", "unsigned": False}
-    code = call(number, _lists.lend(source, **how), _byref(out))
-    if code == ORDER:
-        code = call(number, _lists.lend(source, in_order=True, **how), _byref(out))
+    return kept(source, number).give()
+
+
+def kept(matrix: Any, number: int, turned: bool = False, unsigned: bool = False, nonzero: bool = False) -> Matrix:
+    """Keeps a matrix of scipy, or its transpose if `turned`, over the semiring of a number (`_lists.lend`).
+
+    Only if the kernel finds that its entries aren't sorted, sorts a copy and calls again.
+    """
+    code, out = ORDER, _void()
+    for in_order in (False, True):
+        if code == ORDER:
+            lent = _lists.lend(matrix, turned, unsigned, nonzero, in_order)
+            call = library.cbgrid_matrix_of_rows if lent.by_rows else library.cbgrid_matrix_of_columns
+            code = call(number, lent, _byref(out))
     if code:
         raise error(code)
-    return out.value
+    return Matrix._of(out.value, number)
+
+
+def read_matrix(text: bytes, number: int) -> Matrix:
+    """Reads the matrix of a Matrix Market text over the semiring of a number."""
+    line, out = ctypes.c_uint64(), _void()
+    code = library.cbgrid_matrix_read(number, text, len(text), line, _byref(out))
+    if code:
+        raise error(code, line=line.value if code == FORMAT else None)
+    return Matrix._of(out.value, number)
 
 
 def _coordinates(array: np.ndarray, number: int) -> Any:
