@@ -2,6 +2,7 @@
 //!
 //! - `faults` says why a job has no answer, or why the answer wasn't written.
 //! - `sinks` has what bytes are written to.
+//! - `texts` has the bytes of a file, in the parts in which they were loaded.
 //!
 //! `IsEnd` (`specs/WriteEnds.antt`) is the one statement about a call that writes an answer.
 #![tactic(auto)]
