@@ -226,7 +226,6 @@ class AgainstDenseSums(Test):
             for it in a, b, c:
                 it.data[:] = self.rng.integers(0, high, len(it.data), dtype=np.uint64)
             left, right, other = dense(a, zero), dense(b, zero), dense(c, zero)
-            grid = 1 + turn % 6
             self.assert_dense(cbgrid.multiply(a, b, semiring), dense_product(left, right, semiring), zero, a)
             self.assert_dense(cbgrid.add(a, c, semiring), np.vectorize(plus, [object])(left, other), zero, a)
             self.assert_dense(cbgrid.times(a, c, semiring), np.vectorize(product, [object])(left, other), zero, a)
@@ -272,15 +271,14 @@ class Lists(Test):
     def test_sides_at_the_limit(self):
         last = LIMIT - 1
         a = sp.coo_matrix((np.array([3, 5]), ([last, 0], [last, 7])), shape=(LIMIT, LIMIT))
-        for grid in range(1, 7):
-            square = cbgrid.multiply(a, a)
-            self.assertEqual((square.row.tolist(), square.col.tolist(), square.data.tolist()), ([last], [last], [9]))
-            turned = cbgrid.transpose(a)
-            self.assertEqual((turned.row.tolist(), turned.col.tolist()), ([7, last], [0, last]))
-            sums = cbgrid.reduce(a)
-            self.assertEqual((sums.row.tolist(), sums.data.tolist(), sums.shape), ([0, last], [5, 3], (LIMIT, 1)))
-            sums = cbgrid.reduce(a, "columns")
-            self.assertEqual((sums.col.tolist(), sums.data.tolist(), sums.shape), ([7, last], [5, 3], (1, LIMIT)))
+        square = cbgrid.multiply(a, a)
+        self.assertEqual((square.row.tolist(), square.col.tolist(), square.data.tolist()), ([last], [last], [9]))
+        turned = cbgrid.transpose(a)
+        self.assertEqual((turned.row.tolist(), turned.col.tolist()), ([7, last], [0, last]))
+        sums = cbgrid.reduce(a)
+        self.assertEqual((sums.row.tolist(), sums.data.tolist(), sums.shape), ([0, last], [5, 3], (LIMIT, 1)))
+        sums = cbgrid.reduce(a, "columns")
+        self.assertEqual((sums.col.tolist(), sums.data.tolist(), sums.shape), ([7, last], [5, 3], (1, LIMIT)))
         self.assertEqual([it.tolist() for it in cbgrid.bfs(a, 0)], [[0, 7], [0, 1]])
         self.assertEqual([it.tolist() for it in cbgrid.relax(a, last)], [[last], [0]])
         self.assertEqual(cbgrid.read(cbgrid.text(a), format="coo").col.tolist(), [7, last])
@@ -590,13 +588,10 @@ class Refused(Test):
             for source in -1, 4, 2**31, 2**32, 2**70:
                 self.assert_refused(12, cbgrid.bfs, kind(square), source)
                 self.assert_refused(12, cbgrid.relax, abs(kind(square)), source)
-        for grid in 0, 7, -1, 2**32 + 1:
-            self.assert_refused(2, cbgrid.multiply, square, square)
         self.assert_refused(1, cbgrid.multiply, square, square, "plus")
-        self.assert_refused(3, cbgrid.prune, square, "under", 1)
+        self.assert_refused(2, cbgrid.prune, square, "under", 1)
         for value in -1, 2**64:
             self.assert_refused(9, cbgrid.prune, abs(square), "below", value)
-        self.assertRaises(TypeError, cbgrid.multiply, square, square, grid=1.0)
 
     def test_values(self):
         a = sp.csc_matrix(np.array([[1, -2], [0, 3]]))

@@ -122,13 +122,13 @@ class Updates(unittest.TestCase):
     def test_refused(self):
         a = cbgrid.Matrix(np.array([[1, 1, 0], [0, 1, 1]]), "or-and")
         other, turned = cbgrid.Matrix(np.ones((2, 3), int)), a.T
-        self.refused(16, "other semirings", lambda: a.update(other))
-        self.refused(16, "other semirings", lambda: a.update(a, other))
+        self.refused(3, "other semirings", lambda: a.update(other))
+        self.refused(3, "other semirings", lambda: a.update(a, other))
         self.refused(10, "shapes", lambda: a.update(turned))
         self.refused(10, "shapes", lambda: a.update(a, turned))
         self.refused(10, "shapes", lambda: a.multiply(a))
         self.refused(10, "shapes", lambda: a.multiply(turned, transpose_left=True))
-        self.refused(16, "other semirings", lambda: a.multiply(other, transpose_right=True))
+        self.refused(3, "other semirings", lambda: a.multiply(other, transpose_right=True))
         self.refused(3, "factors: 1 to 2^32 - 1", lambda: a.power(0))
         self.refused(3, "factors: 1 to 2^32 - 1", lambda: a ** -1)
         self.refused(3, "factors: 1 to 2^32 - 1", lambda: a ** 2**32)
