@@ -1,5 +1,6 @@
 //! The entries of a text.
-ghost use Rattle.std.specs.Prelude.{◌≡◌, ◌+◌, ◌*◌, ◌/◌, ◌^◌, ◌<◌, ◌++◌, IsTrue, IfOk, IfErr, OnOk, length, None};
+ghost use Rattle.std.specs.Prelude.{◌≡◌, ◌+◌, ◌*◌, ◌/◌, ◌^◌, ◌<◌, ◌++◌, IsTrue, IfOk, IfErr, OnOk, OnErr, length, None};
+ghost use mathlib.Core.List.{IsPrefix};
 ghost use Rattle.cb_semirings.specs.Arithmetic.{IsValue};
 ghost use Rattle.cb_matrix.specs.Sparse.{IsInside};
 ghost use Rattle.cb_market_lines.specs.Lines.{lines, kept, past_last, kept_from};
@@ -16,7 +17,8 @@ use cb_matrix::Entry;
 use cb_semirings::Semiring;
 use std::alloc::{AllocError, Global};
 
-/// Adds an entry, and the mirrored one if the symmetry has it.
+/// Adds an entry, and the mirrored one if the symmetry has it. If memory is refused, the entries from before stay, and the
+/// first of the two may have been added.
 #[inline(always)]
 pub fn give<S: Semiring>(
     alloc: Global,
@@ -28,6 +30,7 @@ pub fn give<S: Semiring>(
     requires inside { IsInside entries.old.shape entry }
     requires shape { IsTrue (is_shape symmetry entries.old.shape) }
     ensures given { OnOk result (entries.new.entries ≡ entries.old.entries ++ given_by S.arithmetic symmetry entry) }
+    ensures err { OnErr result (IsPrefix entries.old.entries entries.new.entries) }
     ensures side { entries.new.side ≡ entries.old.side }
     ensures shape { entries.new.shape ≡ entries.old.shape }
 {
@@ -77,7 +80,8 @@ pub fn room_for_entries(header: Header, count: u32, bytes: usize) -> usize
     most_given(header.symmetry) * lines.min(count as usize)
 }
 
-/// Reads the entries of a text, from the line after its size line on, and adds them to `entries`.
+/// Reads the entries of a text, from the line after its size line on, and adds them to `entries`. After a fault the entries
+/// from before stay, followed by some of those that were read.
 pub fn entries_of<S: Semiring>(
     scanner: &mut Scanner<'_>,
     alloc: Global,
@@ -91,6 +95,7 @@ pub fn entries_of<S: Semiring>(
     requires shape { IsTrue (is_shape header.symmetry size.shape) }
     ensures none { OnOk result (entries_fault_from S.arithmetic header size scanner.old.line scanner.old.rest.now ≡ None) }
     ensures given { OnOk result (entries.new.entries ≡ entries.old.entries ++ given S.arithmetic header (kept_from scanner.old.line scanner.old.rest.now)) }
+    ensures err { OnErr result (IsPrefix entries.old.entries entries.new.entries) }
     ensures side { entries.new.side ≡ entries.old.side }
     ensures shape { entries.new.shape ≡ size.shape }
     ensures line { OnOk result (scanner.new.line ≡ past_last scanner.old.line scanner.old.rest.now) }
@@ -105,7 +110,8 @@ pub fn entries_of<S: Semiring>(
 }
 
 /// Reads the entries of all lines that are left, and adds them to `entries`. Returns how many of those announced are
-/// missing, or the first fault of a line.
+/// missing, or the first fault of a line. After a fault the entries from before stay, followed by some of those that were
+/// read.
 pub fn remaining_entries<S: Semiring>(
     scanner: &mut Scanner<'_>,
     alloc: Global,
@@ -119,6 +125,7 @@ pub fn remaining_entries<S: Semiring>(
     ensures faultless { OnOk result (AreFaultless S.arithmetic header size.shape (kept (lines scanner.old.rest.now))) }
     ensures missing { IfOk result (λ missing. missing + length (kept (lines scanner.old.rest.now)) ≡ size.count) }
     ensures given { OnOk result (entries.new.entries ≡ entries.old.entries ++ given_in S.arithmetic header (kept (lines scanner.old.rest.now))) }
+    ensures err { OnErr result (IsPrefix entries.old.entries entries.new.entries) }
     ensures side { entries.new.side ≡ entries.old.side }
     ensures shape { entries.new.shape ≡ size.shape }
     ensures line { OnOk result (scanner.new.line ≡ past_last scanner.old.line scanner.old.rest.now) }

@@ -119,12 +119,13 @@ impl<S: Semiring> Gathered<S> {
         })
     }
 
-    /// Appends an entry. It takes constant time, except when lists grow, and except for the entry that ends the ascent,
-    /// which moves all others to the list.
+    /// Appends an entry. If memory is refused, nothing changes. It takes constant time, except when lists grow, and except
+    /// for the entry that ends the ascent, which moves all others to the list.
     pub fn push(&mut self, alloc: Global, entry: Entry) -> Result<(), AllocError>
         requires inside { IsInside self.old.shape entry }
         requires value { IsValue S.arithmetic entry.value }
         ensures entries { OnOk result (self.new.entries ≡ self.old.entries ++ entry ∷ []) }
+        ensures err { OnErr result (self.new ≡ self.old) }
         ensures side { self.new.side ≡ self.old.side }
         ensures shape { self.new.shape ≡ self.old.shape }
         ensures room { self.new.room ≡ self.old.room }

@@ -1,5 +1,5 @@
 //! The slots of the ranks: filled with blocks before a plan, and drained after it.
-ghost use Rattle.std.specs.Prelude.{◌≡◌, ◌≢◌, ◌<◌, ◌*◌, ℕ, length, replicate, Some, All, IfOk, IfErr, OnOk};
+ghost use Rattle.std.specs.Prelude.{◌≡◌, ◌≢◌, ◌<◌, ◌*◌, ℕ, length, replicate, Some, All, IfOk, IfErr, OnOk, OnErr};
 ghost use Rattle.cb_grid.specs.Blocks.{block_at};
 ghost use Rattle.cb_plan.specs.declared.stores.Slot.TheVariants.{Empty};
 ghost use Rattle.cb_matrix.specs.Sparse.{Sparse};
@@ -7,7 +7,7 @@ ghost use Rattle.cb_plan.specs.Meaning.{State};
 ghost use Rattle.cb_plan.specs.Stores.{state_of};
 ghost use Rattle.cb_plan.specs.PlanTables.{IsTable, cell};
 ghost use Rattle.cb_placement.specs.Answers.{HasShapes, IsGathered, IsGatheredOf};
-ghost use Rattle.cb_placement.specs.Losses.{AreFilled, IsDrainRefusal, LostOrMeans};
+ghost use Rattle.cb_placement.specs.Losses.{AreFilled, IsDrainRefusal, IsPartlyDrained, LostOrMeans};
 ghost use Rattle.cb_placement.specs.Slots.{Filled, HasOperands, HaveSlots, block_of_rank, whole_operands};
 
 use crate::DrainFault;
@@ -89,7 +89,8 @@ pub fn fill<S: Semiring>(stores: &mut Vec<RankStore<S>>, slot: u16, blocks: Vec<
 /// Moves the blocks out of a slot of the ranks. Other slots don't change.
 ///
 /// `Lost` names the origin of the loss at the least rank whose slot is lost. `Memory` is reported before any block is moved,
-/// or where a block is lent to other slots, so that it has to be copied. The blocks of the ranks before are then dropped.
+/// or where a block is lent to other slots, so that it has to be copied. The blocks of the ranks before are then dropped:
+/// after a fault the slot is empty at some ranks, and as it was at the others.
 #[tactic(auto, using(crate::proofs::DrainedSlots::taken, crate::proofs::DrainedSlots::never_empty, crate::proofs::DrainedSlots::first_loss))]
 pub fn drain<S: Semiring>(
     alloc: Global,
@@ -103,6 +104,7 @@ pub fn drain<S: Semiring>(
     ensures blocks { IfOk result (λ v. (r : ℕ) → r < length stores.old.items → state_of stores.old.items r slot ≡ Some (block_at v.items r)) }
     ensures table { OnOk result (IsTable (length stores.old.items) SLOTS stores.new.items) }
     ensures others { OnOk result ((r n : ℕ) → slot ≢ n → cell Empty stores.new.items r n ≡ cell Empty stores.old.items r n) }
+    ensures left { OnErr result (IsPartlyDrained slot stores.old.items stores.new.items) }
     ensures fault { IfErr result (IsDrainRefusal slot stores.old.items) }
 {
     let mut blocks = Vec::with_capacity(alloc, stores.len())?;

@@ -4,6 +4,7 @@ use Rattle.cb_market_lines.specs.Checks.{given_by}
 use Rattle.cb_market_lines.specs.Faults.{IsNextEntry}
 use Rattle.cb_market_lines.proofs.NextEntries.{next_extra, next_refused, next_memory, next_passed, next_inside, next_value, at_ok}
 use Rattle.cb_market.proofs.PartedTexts.{reading_none, reading_more, reading_all}
+use Rattle.cb_market.proofs.Beginnings.{prefix_self, longer_prefix, prefix_of_prefix, at_err}
 use Rattle.cb_market.proofs.entries.remaining_entries.Goals as goal
 
 pub returns-then-left-eq0-clause-fault : goal.returns-then-left-eq0-clause-fault
@@ -36,6 +37,7 @@ loop-line-preserved g c =
       reading = reading_more s c.args.header c.args.size.shape _ c.loop-line.scanner.line c.next_entry.new.self.line c.in-Some.line c.loop-line.scanner.rest.now c.next_entry.new.self.rest.now c.args.size.count c.loop-line.left _ c.loop-line.entries.entries c.give.new.entries.entries c.in-Ok.entry line some c.loop-line.invariant.reading next added;
       count = omega (arith, line, c.in-Some.ensures.some.count, c.loop-line.invariant.count);
       later = omega (arith, line, c.in-Some.ensures.some.later, c.loop-line.invariant.later);
+      first = longer_prefix _ _ _ _ c.loop-line.invariant.first added;
       side = c.give.ensures.side ∙ c.loop-line.invariant.side;
       shape = c.give.ensures.shape ∙ c.loop-line.invariant.shape;
       room = omega (arith, line, c.in-Some.ensures.some.count, c.loop-line.invariant.room);
@@ -57,7 +59,7 @@ pub give-requires-clause-shape : goal.give-requires-clause-shape
 give-requires-clause-shape g c = rw c.loop-line.invariant.shape c.requires.shape
 
 pub loop-line-init : goal.loop-line-init
-loop-line-init g c = record { faults = refl; reading = reading_none g.S.Semiring.arithmetic c.args.header c.args.size.shape _ _ _; count = refl; later = omega arith; side = refl; shape = c.requires.same_shape; room = c.requires.lines }
+loop-line-init g c = record { faults = refl; reading = reading_none g.S.Semiring.arithmetic c.args.header c.args.size.shape _ _ _; count = refl; later = omega arith; first = prefix_self _; side = refl; shape = c.requires.same_shape; room = c.requires.lines }
 
 pub next_entry-requires : goal.next_entry-requires
 next_entry-requires g c = c.loop-line.invariant.room
@@ -115,3 +117,13 @@ returns-clause-missing g c =
 pub returns-clause-given : goal.returns-clause-given
 returns-clause-given g c =
     (reading_all g.S.Semiring.arithmetic c.args.header c.args.size.shape c.args.scanner.now.rest.now c.args.scanner.now.line c.loop-line.scanner.line c.loop-line.scanner.rest.now c.args.size.count c.loop-line.left _ c.loop-line.entries.entries c.loop-line.invariant.reading c.in_default.ensures.none).gives
+
+pub returns-then-left-eq0-clause-err : goal.returns-then-left-eq0-clause-err
+returns-then-left-eq0-clause-err g c = c.loop-line.invariant.first
+
+pub returns-in-Err-clause-err : goal.returns-in-Err-clause-err
+returns-in-Err-clause-err g c = c.loop-line.invariant.first
+
+pub returns-then-is_err-clause-err : goal.returns-then-is_err-clause-err
+returns-then-is_err-clause-err g c =
+    prefix_of_prefix _ _ _ c.loop-line.invariant.first (at_err c.give.result _ (sym c.is_err.ensures.value ∙ c.if-is_err.true) c.give.ensures.err)
