@@ -115,8 +115,9 @@ __all__ = [
 ]
 __version__ = library.cbgrid_version().decode("ascii")
 
-Sparse = TypeVar("Sparse")
-Vector = TypeVar("Vector")
+# A bound lets the type checker see inside what only a caller knows.
+Sparse = TypeVar("Sparse", bound=Any)
+Vector = TypeVar("Vector", bound=Any)
 
 _TESTS = {"below": 0, "above": 1, "equal": 2}
 _SIDES = ("rows", "columns")
@@ -145,7 +146,7 @@ def _semiring(name: str | None) -> int:
     return number_of("plus-times" if name is None else name)
 
 
-def _of_kept(matrix: Matrix, semiring: str | None, grid: int = 1) -> Sparse:
+def _of_kept(matrix: Matrix, semiring: str | None, grid: int = 1) -> Any:
     """A kept matrix, unless a call names another semiring than its own."""
     _grid(grid)
     if semiring is not None and number_of(semiring) != number_of(matrix.semiring):
@@ -176,7 +177,7 @@ def _sources(vertices: Any) -> np.ndarray:
     return np.ascontiguousarray(vertices, np.uint32)
 
 
-def _lent(operands: tuple, **how: int) -> list:
+def _lent(operands: tuple, **how: Any) -> list:
     """Passes operands as lists. An operand that is also the first one is converted only once."""
     first = _lists.lend(operands[0], **how)
     return [first, *[first if it is operands[0] else _lists.lend(it, **how) for it in operands[1:]]]
@@ -312,6 +313,13 @@ def spmv(a: Any, x: Vector, semiring: str | None = None, grid: int = 1) -> Vecto
     ------
     CbgridValueError, CbgridMemoryError, OverflowError
         As `multiply`.
+
+    Examples
+    --------
+    >>> import numpy as np, scipy.sparse, cbgrid
+    >>> a = scipy.sparse.csc_array(np.array([[1, 2], [0, 3]]))
+    >>> cbgrid.spmv(a, np.array([5, 7]))
+    array([19, 21])
     """
     if isinstance(a, Matrix):
         return _of_kept(a, semiring, grid) @ x
@@ -329,7 +337,7 @@ def spmv(a: Any, x: Vector, semiring: str | None = None, grid: int = 1) -> Vecto
         _lists.check_signed(values)
     if not is_array:
         return _lists.column_like(x, a.shape[0], places, values)
-    made = np.zeros(a.shape[0], x.dtype)
+    made: Any = np.zeros(a.shape[0], x.dtype)
     if number in _INFINITE:
         made.fill(2**64 - 1)
     made[places] = values
@@ -362,6 +370,19 @@ def transpose(a: Sparse, semiring: str | None = None, grid: int = 1) -> Sparse:
     -------
     sparse matrix
         Of the class and dtype of `a`.
+
+    Raises
+    ------
+    CbgridValueError, CbgridMemoryError
+        As `multiply`.
+
+    Examples
+    --------
+    >>> import numpy as np, scipy.sparse, cbgrid
+    >>> a = scipy.sparse.csc_array(np.array([[1, 2], [0, 3]]))
+    >>> cbgrid.transpose(a).toarray()
+    array([[1, 0],
+           [2, 3]])
     """
     if isinstance(a, Matrix):
         return _of_kept(a, semiring, grid).T
@@ -385,6 +406,20 @@ def reduce(a: Sparse, by: str = "rows", semiring: str | None = None, grid: int =
     sparse matrix
         One column with as many rows as `a`, or one row with as many columns, of the class and dtype of `a`. A sum
         that is the semiring's zero isn't stored.
+
+    Raises
+    ------
+    CbgridValueError, CbgridMemoryError
+        As `multiply`.
+    ValueError
+        `by` is neither "rows" nor "columns".
+
+    Examples
+    --------
+    >>> import numpy as np, scipy.sparse, cbgrid
+    >>> a = scipy.sparse.csc_array(np.array([[1, 2], [0, 3]]))
+    >>> cbgrid.reduce(a, by="columns").toarray()
+    array([[1, 5]])
     """
     if isinstance(a, Matrix):
         return _of_kept(a, semiring, grid).sums(by)
@@ -412,6 +447,19 @@ def add(a: Sparse, b: Any, semiring: str | None = None, grid: int = 1) -> Sparse
     -------
     sparse matrix
         Of the class and dtype of `a`.
+
+    Raises
+    ------
+    CbgridValueError, CbgridMemoryError, OverflowError
+        As `multiply`; the shapes must be the same.
+
+    Examples
+    --------
+    >>> import numpy as np, scipy.sparse, cbgrid
+    >>> a = scipy.sparse.csc_array(np.array([[1, 2], [0, 3]]))
+    >>> cbgrid.add(a, a, semiring="max-min").toarray()
+    array([[1, 2],
+           [0, 3]])
     """
     if isinstance(a, Matrix):
         return _of_kept(a, semiring, grid) + b
@@ -433,6 +481,20 @@ def times(a: Sparse, b: Any, semiring: str | None = None, grid: int = 1) -> Spar
     -------
     sparse matrix
         Of the class and dtype of `a`.
+
+    Raises
+    ------
+    CbgridValueError, CbgridMemoryError, OverflowError
+        As `multiply`; the shapes must be the same.
+
+    Examples
+    --------
+    >>> import numpy as np, scipy.sparse, cbgrid
+    >>> a = scipy.sparse.csc_array(np.array([[1, 2], [0, 3]]))
+    >>> b = scipy.sparse.csc_array(np.array([[0, 5], [4, 0]]))
+    >>> cbgrid.times(a, b).toarray()
+    array([[ 0, 10],
+           [ 0,  0]])
     """
     if isinstance(a, Matrix):
         return _of_kept(a, semiring, grid) * b
@@ -458,6 +520,19 @@ def prune(a: Sparse, test: str, value: int, semiring: str | None = None, grid: i
     -------
     sparse matrix
         Of the class and dtype of `a`.
+
+    Raises
+    ------
+    CbgridValueError, CbgridMemoryError
+        As `multiply`; also if there is no such test, or `value` is out of range.
+
+    Examples
+    --------
+    >>> import numpy as np, scipy.sparse, cbgrid
+    >>> a = scipy.sparse.csc_array(np.array([[1, 2], [0, 3]]))
+    >>> cbgrid.prune(a, "above", 2).toarray()
+    array([[1, 2],
+           [0, 0]])
     """
     number = _TESTS.get(test)
     if number is None:
@@ -466,7 +541,7 @@ def prune(a: Sparse, test: str, value: int, semiring: str | None = None, grid: i
     if isinstance(a, Matrix):
         if not 0 <= bound < 2**64:
             raise error(VALUE, "value not 0 to 2^64 - 1")
-        return _of_kept(a, semiring, grid).prune(number, bound)
+        return _of_kept(a, semiring, grid)._pruned(number, bound)
     _lists.check_matrix(a, "a")
     is_equal = test == "equal"
     if not (-(2**63) if is_equal and a.dtype.kind == "i" else 0) <= bound < 2**64:
@@ -518,7 +593,7 @@ def bfs(graph: Any, source: Any, grid: int = 1) -> Any:
         return _walks(graph, source, grid, is_levels=True)
     if isinstance(graph, Matrix):
         _grid(grid)
-        vertices, levels = graph.walk(True, _source(source))
+        vertices, levels = graph._walk(True, _source(source))
         return vertices, levels.view(np.int64)
     _lists.check_matrix(graph, "graph")
     answer = _walk(library.cbgrid_levels, graph, source, grid, nonzero=True)
@@ -566,7 +641,7 @@ def relax(graph: Any, source: Any, grid: int = 1) -> Any:
         return _walks(graph, source, grid, is_levels=False)
     if isinstance(graph, Matrix):
         _grid(grid)
-        return graph.walk(False, _source(source))
+        return graph._walk(False, _source(source))
     _lists.check_matrix(graph, "graph")
     answer = _walk(library.cbgrid_distances, graph, source, grid, nonzero=False)
     distances = answer.values(graph.dtype)
@@ -593,6 +668,13 @@ def bfs_given(graph: Any, vertices: Any, numbers: Any) -> tuple[np.ndarray, np.n
         For each of them the least sum of an initial value and the number of edges of a walk from its vertex. A vertex
         whose least sum is 2**64 - 1 or more counts as not reached.
 
+    Raises
+    ------
+    CbgridValueError
+        The graph isn't square, a vertex isn't one of it, a number isn't 0 to 2**64 - 1, or the lists differ in length.
+    CbgridMemoryError
+        Out of memory.
+
     Examples
     --------
     >>> import numpy as np, scipy.sparse, cbgrid
@@ -600,7 +682,7 @@ def bfs_given(graph: Any, vertices: Any, numbers: Any) -> tuple[np.ndarray, np.n
     >>> cbgrid.bfs_given(roads, [0, 1], [0, 5])
     (array([0, 1, 2], dtype=int32), array([0, 1, 1], dtype=uint64))
     """
-    reached, levels = _graph(graph).walk_given(True, vertices, numbers)
+    reached, levels = _graph(graph)._walk_given(True, vertices, numbers)
     return reached.astype(np.int32), levels
 
 
@@ -622,6 +704,14 @@ def relax_given(graph: Any, vertices: Any, numbers: Any) -> tuple[np.ndarray, np
         For each of them the least sum of an initial value and the length of a walk from its vertex. A vertex whose
         least sum is 2**64 - 1 or more counts as not reached.
 
+    Raises
+    ------
+    CbgridValueError
+        The graph isn't square, a length is negative, a vertex isn't one of it, a number isn't 0 to 2**64 - 1, or the
+        lists differ in length.
+    CbgridMemoryError
+        Out of memory.
+
     Examples
     --------
     >>> import numpy as np, scipy.sparse, cbgrid
@@ -632,7 +722,7 @@ def relax_given(graph: Any, vertices: Any, numbers: Any) -> tuple[np.ndarray, np
     if not isinstance(graph, Matrix):
         _lists.check_matrix(graph, "graph")
         graph = Matrix(graph, "min-plus")
-    reached, distances = graph.walk_given(False, vertices, numbers)
+    reached, distances = graph._walk_given(False, vertices, numbers)
     return reached.astype(np.int32), distances
 
 
@@ -648,9 +738,9 @@ def _walks(graph: Any, sources: Any, grid: int, is_levels: bool) -> Any:
     _grid(grid)
     vertices = _sources(sources)
     if isinstance(graph, Matrix):
-        return graph.walks(is_levels, vertices)
+        return graph._walks(is_levels, vertices)
     _lists.check_matrix(graph, "graph")
-    made = (_graph(graph) if is_levels else Matrix(graph, "min-plus")).walks(is_levels, vertices)
+    made = (_graph(graph) if is_levels else Matrix(graph, "min-plus"))._walks(is_levels, vertices)
     return made.to_scipy("csr", np.int64 if is_levels else graph.dtype)
 
 
@@ -679,6 +769,13 @@ def parents(graph: Any, source: int) -> tuple[np.ndarray, np.ndarray]:
     parents : numpy array of int64
         For each of them the least vertex that precedes it on a shortest path from the source.
 
+    Raises
+    ------
+    CbgridValueError
+        The graph isn't square, or `source` isn't one of its vertices.
+    CbgridMemoryError
+        Out of memory.
+
     Examples
     --------
     >>> import numpy as np, scipy.sparse, cbgrid
@@ -705,6 +802,13 @@ def components(graph: Any) -> tuple[np.ndarray, np.ndarray]:
     components : numpy array of int64
         For each of them the least vertex of its component.
 
+    Raises
+    ------
+    CbgridValueError
+        The graph isn't square.
+    CbgridMemoryError
+        Out of memory.
+
     Examples
     --------
     >>> import numpy as np, scipy.sparse, cbgrid
@@ -728,6 +832,13 @@ def triangles(graph: Any) -> int:
     -------
     int
         At most 2**64 - 1.
+
+    Raises
+    ------
+    CbgridValueError
+        The graph isn't square.
+    CbgridMemoryError
+        Out of memory.
 
     Examples
     --------
@@ -764,6 +875,14 @@ def read(source: Any, semiring: str = "plus-times", format: str = "csc", dtype: 
         The text doesn't follow the profile of docs/FORMAT.md. The error has code 13 and the `line` of the first fault.
     OSError
         The file can't be read.
+
+    Examples
+    --------
+    >>> import numpy as np, scipy.sparse, cbgrid
+    >>> text = b"%%MatrixMarket matrix coordinate integer general\\n2 2 1\\n1 2 7\\n"
+    >>> cbgrid.read(text, dtype=np.int64).toarray()
+    array([[0, 7],
+           [0, 0]])
     """
     number = _semiring(semiring)
     dtype = np.dtype(dtype)
@@ -802,6 +921,22 @@ def text(matrix: Any, semiring: str | None = None) -> bytes:
     Returns
     -------
     bytes
+
+    Raises
+    ------
+    CbgridValueError, CbgridMemoryError
+        As `multiply`.
+
+    Examples
+    --------
+    >>> import numpy as np, scipy.sparse, cbgrid
+    >>> a = scipy.sparse.csc_array(np.array([[1, 2], [0, 3]]))
+    >>> print(cbgrid.text(a).decode(), end="")
+    %%MatrixMarket matrix coordinate integer general
+    2 2 3
+    1 1 1
+    1 2 2
+    2 2 3
     """
     if isinstance(matrix, Matrix):
         return _of_kept(matrix, semiring).text()
