@@ -108,8 +108,9 @@ __all__ = [
 ]
 __version__ = library.cbgrid_version().decode("ascii")
 
-Sparse = TypeVar("Sparse")
-Vector = TypeVar("Vector")
+# A bound lets the type checker see inside what only a caller knows.
+Sparse = TypeVar("Sparse", bound=Any)
+Vector = TypeVar("Vector", bound=Any)
 
 _TESTS = {"below": 0, "above": 1, "equal": 2}
 _SIDES = ("rows", "columns")
@@ -138,7 +139,7 @@ def _semiring(name: str | None) -> int:
     return number_of("plus-times" if name is None else name)
 
 
-def _of_kept(matrix: Matrix, semiring: str | None) -> Sparse:
+def _of_kept(matrix: Matrix, semiring: str | None) -> Any:
     """A kept matrix, unless a call names another semiring than its own."""
     if semiring is not None and number_of(semiring) != number_of(matrix.semiring):
         raise error(MIXED)
@@ -169,7 +170,7 @@ def _kept(operands: tuple, number: int, **how: bool) -> list[Matrix]:
 
 def _result(made: Matrix, like: Any, turned: bool, number: int) -> Any:
     """A result as a matrix of the class and dtype of `like`."""
-    matrix = _lists.matrix_of(made.lists(), like, turned)
+    matrix = _lists.matrix_of(made._lists(), like, turned)
     if number in _SUMS:
         _lists.check_signed(matrix.data)
     return matrix
@@ -246,7 +247,7 @@ def multiply(
     number = _semiring(semiring)
     unsigned, product = _UNSIGNED[number], _TURNED[number] if turned else number
     left, right, *masks = _kept(operands, product, turned=turned, unsigned=unsigned)
-    made = left.multiply(right, *masks, complement=complement, threads=threads)
+    made = left.multiply(right, masks[0] if masks else None, complement, threads=threads)
     return _result(made, a, turned, number)
 
 
@@ -272,6 +273,13 @@ def spmv(a: Any, x: Vector, semiring: str | None = None) -> Vector:
     ------
     CbgridValueError, CbgridMemoryError, OverflowError
         As `multiply`.
+
+    Examples
+    --------
+    >>> import numpy as np, scipy.sparse, cbgrid
+    >>> a = scipy.sparse.csc_array(np.array([[1, 2], [0, 3]]))
+    >>> cbgrid.spmv(a, np.array([5, 7]))
+    array([19, 21])
     """
     if isinstance(a, Matrix):
         return _of_kept(a, semiring) @ x
@@ -283,12 +291,12 @@ def spmv(a: Any, x: Vector, semiring: str | None = None) -> Vector:
     column = _lists.lend_array(x, turned, unsigned) if is_array else x
     operands = (column, a) if turned else (a, column)
     left, right = _kept(operands, _TURNED[number] if turned else number, turned=turned, unsigned=unsigned)
-    places, values = _lists.column_of(left.multiply(right).lists(), turned, a.dtype)
+    places, values = _lists.column_of(left.multiply(right)._lists(), turned, a.dtype)
     if number in _SUMS:
         _lists.check_signed(values)
     if not is_array:
         return _lists.column_like(x, a.shape[0], places, values)
-    made = np.zeros(a.shape[0], x.dtype)
+    made: Any = np.zeros(a.shape[0], x.dtype)
     if number in _INFINITE:
         made.fill(2**64 - 1)
     made[places] = values
@@ -321,6 +329,19 @@ def transpose(a: Sparse, semiring: str | None = None) -> Sparse:
     -------
     sparse matrix
         Of the class and dtype of `a`.
+
+    Raises
+    ------
+    CbgridValueError, CbgridMemoryError
+        As `multiply`.
+
+    Examples
+    --------
+    >>> import numpy as np, scipy.sparse, cbgrid
+    >>> a = scipy.sparse.csc_array(np.array([[1, 2], [0, 3]]))
+    >>> cbgrid.transpose(a).toarray()
+    array([[1, 0],
+           [2, 3]])
     """
     if isinstance(a, Matrix):
         return _of_kept(a, semiring).T
@@ -344,6 +365,20 @@ def reduce(a: Sparse, by: str = "rows", semiring: str | None = None) -> Sparse:
     sparse matrix
         One column with as many rows as `a`, or one row with as many columns, of the class and dtype of `a`. A sum
         that is the semiring's zero isn't stored.
+
+    Raises
+    ------
+    CbgridValueError, CbgridMemoryError
+        As `multiply`.
+    ValueError
+        `by` is neither "rows" nor "columns".
+
+    Examples
+    --------
+    >>> import numpy as np, scipy.sparse, cbgrid
+    >>> a = scipy.sparse.csc_array(np.array([[1, 2], [0, 3]]))
+    >>> cbgrid.reduce(a, by="columns").toarray()
+    array([[1, 5]])
     """
     if isinstance(a, Matrix):
         return _of_kept(a, semiring).sums(by)
@@ -370,6 +405,19 @@ def add(a: Sparse, b: Any, semiring: str | None = None) -> Sparse:
     -------
     sparse matrix
         Of the class and dtype of `a`.
+
+    Raises
+    ------
+    CbgridValueError, CbgridMemoryError, OverflowError
+        As `multiply`; the shapes must be the same.
+
+    Examples
+    --------
+    >>> import numpy as np, scipy.sparse, cbgrid
+    >>> a = scipy.sparse.csc_array(np.array([[1, 2], [0, 3]]))
+    >>> cbgrid.add(a, a, semiring="max-min").toarray()
+    array([[1, 2],
+           [0, 3]])
     """
     if isinstance(a, Matrix):
         return _of_kept(a, semiring) + b
@@ -391,6 +439,20 @@ def times(a: Sparse, b: Any, semiring: str | None = None) -> Sparse:
     -------
     sparse matrix
         Of the class and dtype of `a`.
+
+    Raises
+    ------
+    CbgridValueError, CbgridMemoryError, OverflowError
+        As `multiply`; the shapes must be the same.
+
+    Examples
+    --------
+    >>> import numpy as np, scipy.sparse, cbgrid
+    >>> a = scipy.sparse.csc_array(np.array([[1, 2], [0, 3]]))
+    >>> b = scipy.sparse.csc_array(np.array([[0, 5], [4, 0]]))
+    >>> cbgrid.times(a, b).toarray()
+    array([[ 0, 10],
+           [ 0,  0]])
     """
     if isinstance(a, Matrix):
         return _of_kept(a, semiring) * b
@@ -416,6 +478,19 @@ def prune(a: Sparse, test: str, value: int, semiring: str | None = None) -> Spar
     -------
     sparse matrix
         Of the class and dtype of `a`.
+
+    Raises
+    ------
+    CbgridValueError, CbgridMemoryError
+        As `multiply`; also if there is no such test, or `value` is out of range.
+
+    Examples
+    --------
+    >>> import numpy as np, scipy.sparse, cbgrid
+    >>> a = scipy.sparse.csc_array(np.array([[1, 2], [0, 3]]))
+    >>> cbgrid.prune(a, "above", 2).toarray()
+    array([[1, 2],
+           [0, 0]])
     """
     number = _TESTS.get(test)
     if number is None:
@@ -424,12 +499,12 @@ def prune(a: Sparse, test: str, value: int, semiring: str | None = None) -> Spar
     if isinstance(a, Matrix):
         if not 0 <= bound < 2**64:
             raise error(VALUE, "value not 0 to 2^64 - 1")
-        return _of_kept(a, semiring).prune(number, bound)
+        return _of_kept(a, semiring)._pruned(number, bound)
     _lists.check_matrix(a, "a")
     is_equal = test == "equal"
     if not (-(2**63) if is_equal and a.dtype.kind == "i" else 0) <= bound < 2**64:
         raise error(VALUE, "value not 0 to 2^64 - 1")
-    return _placed(lambda it: it.prune(number, bound % 2**64), _semiring(semiring), (a,), unsigned=not is_equal)
+    return _placed(lambda it: it._pruned(number, bound % 2**64), _semiring(semiring), (a,), unsigned=not is_equal)
 
 
 def bfs(graph: Any, source: Any) -> Any:
@@ -471,7 +546,7 @@ def bfs(graph: Any, source: Any) -> Any:
     """
     if np.ndim(source):
         return _walks(graph, source, is_levels=True)
-    vertices, levels = _graph(graph).walk(True, _source(source))
+    vertices, levels = _graph(graph)._walk(True, _source(source))
     return vertices, levels.view(np.int64)
 
 
@@ -515,9 +590,9 @@ def relax(graph: Any, source: Any) -> Any:
     if np.ndim(source):
         return _walks(graph, source, is_levels=False)
     if isinstance(graph, Matrix):
-        return graph.walk(False, _source(source))
+        return graph._walk(False, _source(source))
     _lists.check_matrix(graph, "graph")
-    vertices, distances = kept(graph, _MIN_PLUS, unsigned=True).walk(False, _source(source))
+    vertices, distances = kept(graph, _MIN_PLUS, unsigned=True)._walk(False, _source(source))
     distances = distances.view(graph.dtype)
     _lists.check_signed(distances)
     return vertices, distances
@@ -542,6 +617,13 @@ def bfs_given(graph: Any, vertices: Any, numbers: Any) -> tuple[np.ndarray, np.n
         For each of them the least sum of an initial value and the number of edges of a walk from its vertex. A vertex
         whose least sum is 2**64 - 1 or more counts as not reached.
 
+    Raises
+    ------
+    CbgridValueError
+        The graph isn't square, a vertex isn't one of it, a number isn't 0 to 2**64 - 1, or the lists differ in length.
+    CbgridMemoryError
+        Out of memory.
+
     Examples
     --------
     >>> import numpy as np, scipy.sparse, cbgrid
@@ -549,7 +631,7 @@ def bfs_given(graph: Any, vertices: Any, numbers: Any) -> tuple[np.ndarray, np.n
     >>> cbgrid.bfs_given(roads, [0, 1], [0, 5])
     (array([0, 1, 2], dtype=int32), array([0, 1, 1], dtype=uint64))
     """
-    reached, levels = _graph(graph).walk_given(True, vertices, numbers)
+    reached, levels = _graph(graph)._walk_given(True, vertices, numbers)
     return reached.astype(np.int32), levels
 
 
@@ -571,6 +653,14 @@ def relax_given(graph: Any, vertices: Any, numbers: Any) -> tuple[np.ndarray, np
         For each of them the least sum of an initial value and the length of a walk from its vertex. A vertex whose
         least sum is 2**64 - 1 or more counts as not reached.
 
+    Raises
+    ------
+    CbgridValueError
+        The graph isn't square, a length is negative, a vertex isn't one of it, a number isn't 0 to 2**64 - 1, or the
+        lists differ in length.
+    CbgridMemoryError
+        Out of memory.
+
     Examples
     --------
     >>> import numpy as np, scipy.sparse, cbgrid
@@ -581,7 +671,7 @@ def relax_given(graph: Any, vertices: Any, numbers: Any) -> tuple[np.ndarray, np
     if not isinstance(graph, Matrix):
         _lists.check_matrix(graph, "graph")
         graph = Matrix(graph, "min-plus")
-    reached, distances = graph.walk_given(False, vertices, numbers)
+    reached, distances = graph._walk_given(False, vertices, numbers)
     return reached.astype(np.int32), distances
 
 
@@ -589,9 +679,9 @@ def _walks(graph: Any, sources: Any, is_levels: bool) -> Any:
     """The levels or distances from several sources, a row for each: of the kind of the graph."""
     vertices = _sources(sources)
     if isinstance(graph, Matrix):
-        return graph.walks(is_levels, vertices)
+        return graph._walks(is_levels, vertices)
     _lists.check_matrix(graph, "graph")
-    made = (_graph(graph) if is_levels else Matrix(graph, "min-plus")).walks(is_levels, vertices)
+    made = (_graph(graph) if is_levels else Matrix(graph, "min-plus"))._walks(is_levels, vertices)
     return made.to_scipy("csr", np.int64 if is_levels else graph.dtype)
 
 
@@ -620,6 +710,13 @@ def parents(graph: Any, source: int) -> tuple[np.ndarray, np.ndarray]:
     parents : numpy array of int64
         For each of them the least vertex that precedes it on a shortest path from the source.
 
+    Raises
+    ------
+    CbgridValueError
+        The graph isn't square, or `source` isn't one of its vertices.
+    CbgridMemoryError
+        Out of memory.
+
     Examples
     --------
     >>> import numpy as np, scipy.sparse, cbgrid
@@ -646,6 +743,13 @@ def components(graph: Any) -> tuple[np.ndarray, np.ndarray]:
     components : numpy array of int64
         For each of them the least vertex of its component.
 
+    Raises
+    ------
+    CbgridValueError
+        The graph isn't square.
+    CbgridMemoryError
+        Out of memory.
+
     Examples
     --------
     >>> import numpy as np, scipy.sparse, cbgrid
@@ -669,6 +773,13 @@ def triangles(graph: Any) -> int:
     -------
     int
         At most 2**64 - 1.
+
+    Raises
+    ------
+    CbgridValueError
+        The graph isn't square.
+    CbgridMemoryError
+        Out of memory.
 
     Examples
     --------
@@ -705,6 +816,14 @@ def read(source: Any, semiring: str = "plus-times", format: str = "csc", dtype: 
         The text doesn't follow the profile of docs/FORMAT.md. The error has code 13 and the `line` of the first fault.
     OSError
         The file can't be read.
+
+    Examples
+    --------
+    >>> import numpy as np, scipy.sparse, cbgrid
+    >>> text = b"%%MatrixMarket matrix coordinate integer general\\n2 2 1\\n1 2 7\\n"
+    >>> cbgrid.read(text, dtype=np.int64).toarray()
+    array([[0, 7],
+           [0, 0]])
     """
     number = _semiring(semiring)
     dtype = np.dtype(dtype)
@@ -714,7 +833,7 @@ def read(source: Any, semiring: str = "plus-times", format: str = "csc", dtype: 
     contents = _contents(source)
     matrix = read_matrix(contents, number)
     like = (scipy.sparse.csc_array if format == "csc" else scipy.sparse.coo_array)((0, 0), dtype=dtype)
-    made = _lists.matrix_of(matrix.lists(), like, turned=False)
+    made = _lists.matrix_of(matrix._lists(), like, turned=False)
     if number not in _SIGNED:
         _lists.check_signed(made.data)
     return made.tocsr() if format == "csr" else made
@@ -740,6 +859,22 @@ def text(matrix: Any, semiring: str | None = None) -> bytes:
     Returns
     -------
     bytes
+
+    Raises
+    ------
+    CbgridValueError, CbgridMemoryError
+        As `multiply`.
+
+    Examples
+    --------
+    >>> import numpy as np, scipy.sparse, cbgrid
+    >>> a = scipy.sparse.csc_array(np.array([[1, 2], [0, 3]]))
+    >>> print(cbgrid.text(a).decode(), end="")
+    %%MatrixMarket matrix coordinate integer general
+    2 2 3
+    1 1 1
+    1 2 2
+    2 2 3
     """
     if isinstance(matrix, Matrix):
         return _of_kept(matrix, semiring).text()

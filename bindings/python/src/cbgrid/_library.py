@@ -111,7 +111,7 @@ class CbgridError(Exception):
         self.message = message
         self.line = line
 
-    def __reduce__(self):
+    def __reduce__(self) -> tuple:
         return type(self), (self.code, self.message, self.line)
 
 

@@ -17,7 +17,7 @@ from ._library import LENGTHS, LIMIT, ORDER, PLACE, TOO_LARGE, VALUE, Columns, e
 _DCSC, _CSC = 0, 1
 _SHORT = 1000  # elements: a shorter list is quicker to copy or sort than to share or check
 _NUMBERS = np.arange(_SHORT + 1, dtype=np.uint32)
-_from_buffer = c_char.from_buffer
+_from_buffer: Any = c_char.from_buffer  # an array has a buffer
 _INT32, _INT64 = np.dtype(np.int32), np.dtype(np.int64)
 _SIGNED = frozenset((_INT32, _INT64))
 _DTYPES = frozenset((_INT64, np.dtype(np.uint64)))
@@ -264,7 +264,7 @@ class Answer:
 def _compressed_starts(answer: Answer) -> np.ndarray:
     """The starts of all columns, from those of the columns that have entries."""
     ncols, stored = answer.columns.ncols, answer.columns.columns_len
-    dtype = _INT32 if answer.columns.rows_len <= LIMIT else _INT64
+    dtype: Any = _INT32 if answer.columns.rows_len <= LIMIT else _INT64
     starts = answer.starts()
     if stored and stored == ncols:
         return starts.astype(dtype)
@@ -295,7 +295,7 @@ def _bare(like: Any, shape: tuple[int, int]) -> Any:
 
     It is a copy of the object: scipy's constructor checks all lists, which takes longer than a small call.
     """
-    kind = type(like)
+    kind: Any = type(like)
     made = kind.__new__(kind)
     made.__dict__.update(like.__dict__)
     if made.shape != shape:
