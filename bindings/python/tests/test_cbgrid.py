@@ -341,7 +341,7 @@ class Lists(Test):
             from cbgrid import _lists
 
             matrix = kind(a)
-            lent = _lists.lend(matrix, 0, kind is sp.csr_matrix, False)
+            lent = _lists.lend(matrix, kind is sp.csr_matrix, False)
             for address, array in zip((lent.starts32, lent.rows, lent.values), (matrix.indptr, matrix.indices, matrix.data)):
                 self.assertEqual(address, array.ctypes.data)
 

@@ -144,7 +144,7 @@ class Selections(unittest.TestCase):
             want = (like @ right).toarray() * (other.toarray() == 0)
             self.same(made.multiply(factor, mask, complement=True), want)
             self.same(cbgrid.multiply(made, factor, mask=other, complement=True), want)
-            self.assertEqual(made.multiply(factor, complement=True), made @ factor)
+            self.assertRaises(TypeError, made.multiply, factor, complement=True)
 
     def test_sums(self):
         for _ in range(ROUNDS):
@@ -181,8 +181,8 @@ class Selections(unittest.TestCase):
     def test_refused(self):
         a = cbgrid.Matrix(np.array([[1, 1, 0], [0, 1, 1], [1, 0, 1]]), "or-and")
         huge = cbgrid.Matrix.from_triples([], [], [], (LIMIT, 1), "or-and")
-        self.refused(3, "region: one of", lambda: a.select("left"))
-        self.refused(3, "function: one of", lambda: a.apply("square"))
+        self.refused(2, "region: one of", lambda: a.select("left"))
+        self.refused(2, "function: one of", lambda: a.apply("square"))
         self.refused(9, "number: 0 to 2^64 - 1", lambda: a.apply("sum", -1))
         self.refused(9, "number: 0 to 2^64 - 1", lambda: a.apply("sum", 2**64))
         self.refused(9, "not a value", lambda: a.apply("constant", 2))
