@@ -1,4 +1,4 @@
-// The same jobs by the C library of cbgrid, on one thread, over lists that the plain program's reader makes.
+// The same jobs by the C library of cbgrid, on one thread, over matrices of lists that the plain program's reader makes.
 #include <cbgrid.h>
 
 #include "semirings.hpp"
@@ -13,6 +13,13 @@ static void must(int code) {
     if (code) fail(1, cbgrid_message(code));
 }
 
+static cbgrid_matrix* kept_of(uint32_t semiring, const Columns& m) {
+    cbgrid_columns lists = lent(m);
+    cbgrid_matrix* made;
+    must(cbgrid_matrix_of_columns(semiring, &lists, &made));
+    return made;
+}
+
 static uint32_t semiring_of(const Words& words) {
     if (words.semiring == "plus-times") return CBGRID_PLUS_TIMES;
     if (words.semiring == "min-plus") return CBGRID_MIN_PLUS;
@@ -23,10 +30,12 @@ static uint32_t semiring_of(const Words& words) {
 
 static void product(const Words& words, Clock& clock) {
     auto [left, right] = read_operands(words);
+    cbgrid_columns made;
+    cbgrid_matrix *a = kept_of(semiring_of(words), left), *b = kept_of(semiring_of(words), right), *product;
     clock.part("read");
-    cbgrid_columns a = lent(left), b = lent(right), made;
-    must(cbgrid_multiply(semiring_of(words), 1, &a, &b, &made));
+    must(cbgrid_matrix_multiply(a, b, nullptr, &product));
     clock.part("compute");
+    must(cbgrid_matrix_columns(product, &made));
     bool pattern = words.semiring == "or-and";
     write_header(made.nrows, made.ncols, made.rows_len, pattern);
     write_columns(made.columns_len, [&](size_t k) { return made.columns[k]; }, made.starts64, made.rows, made.values, pattern, words.threads);
@@ -36,23 +45,24 @@ static void product(const Words& words, Clock& clock) {
 static void search(const Words& words, Clock& clock) {
     bool bfs = words.command == "bfs";
     Columns graph = bfs ? read_columns<OrAnd>(words.files[0], words.threads, true) : read_columns<MinPlus>(words.files[0], words.threads, false);
+    cbgrid_columns made;
+    cbgrid_matrix *kept = kept_of(bfs ? CBGRID_OR_AND : CBGRID_MIN_PLUS, graph), *column;
     clock.part("read");
-    cbgrid_columns lists = lent(graph), made;
-    must((bfs ? cbgrid_levels : cbgrid_distances)(1, &lists, words.source - 1, &made));
+    must((bfs ? cbgrid_matrix_levels : cbgrid_matrix_distances)(kept, words.source - 1, &column));
     clock.part("compute");
+    must(cbgrid_matrix_columns(column, &made));
     std::vector<u64> number(graph.cols, TOP);
     for (size_t k = 0; k < made.rows_len; k++) number[made.rows[k]] = made.values[k];
     write_vertices(number.size(), [&](size_t v) { return number[v]; }, TOP);
     clock.part("write");
 }
 
-// Of a kept matrix: parents and components have vertices as values, which are written counted from 1.
+// Parents and components have vertices as values, which are written counted from 1.
 static void graph(const Words& words, Clock& clock) {
     Columns edges = read_columns<OrAnd>(words.files[0], words.threads, true);
-    cbgrid_columns lists = lent(edges), made;
-    cbgrid_matrix *kept, *column;
+    cbgrid_columns made;
+    cbgrid_matrix *kept = kept_of(CBGRID_OR_AND, edges), *column;
     uint64_t count;
-    must(cbgrid_matrix_of_columns(CBGRID_OR_AND, &lists, &kept));
     clock.part("read");
     if (words.command == "triangles") {
         must(cbgrid_matrix_triangles(kept, &count));

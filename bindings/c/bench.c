@@ -2,10 +2,10 @@
  * Times calls on a file: bench FILE [RUNS]
  *
  * FILE is a Matrix Market text of a square matrix. Prints the entries of the matrix and of its square over plus-times,
- * and the medians of RUNS calls (10 by default), in microseconds of the clock: the square on lists and of a kept matrix,
- * and freeing it; and, of the kept matrix as a graph over or-and, the transpose, and the levels and the parents from the
- * first vertex.
+ * and the medians of RUNS calls (10 by default), in microseconds of the clock: the square, and freeing it; and, of the
+ * matrix as a graph over or-and, the transpose, and the levels and the parents from the first vertex.
  */
+#include <inttypes.h>
 #include <stdio.h>
 #include <stdlib.h>
 #include <time.h>
@@ -42,17 +42,26 @@ static char *contents(const char *name, size_t *len) {
     return bytes;
 }
 
-/* The same of a kept matrix. Returns the code. */
-static int time_kept(const struct cbgrid_columns *lists, size_t runs, double *products, double *frees) {
+/* Times the square of the matrix of a text. Returns the code. */
+static int time_square(const char *text, size_t len, size_t runs, double *products, double *frees) {
     struct cbgrid_matrix *matrix, *product;
-    int code = cbgrid_matrix_of_columns(CBGRID_PLUS_TIMES, lists, &matrix);
+    int code = cbgrid_matrix_read(CBGRID_PLUS_TIMES, text, len, NULL, &matrix);
     if (code) return code;
+    uint64_t made = 0;
     for (size_t n = 0; n < runs && !code; n++) {
         double start = now();
-        code = cbgrid_matrix_multiply(matrix, matrix, &product);
+        code = cbgrid_matrix_multiply(matrix, matrix, NULL, &product);
         double end = now();
-        if (!code) cbgrid_matrix_free(product);
-        products[n] = end - start, frees[n] = now() - end;
+        if (code) break;
+        made = cbgrid_matrix_entries(product);
+        products[n] = end - start;
+        start = now();
+        cbgrid_matrix_free(product);
+        frees[n] = now() - start;
+    }
+    if (!code) {
+        printf("%" PRIu64 " entries, %" PRIu64 " entries made\n", cbgrid_matrix_entries(matrix), made);
+        printf("%.1f us a product, %.1f us to free it\n", median(products, runs), median(frees, runs));
     }
     cbgrid_matrix_free(matrix);
     return code;
@@ -100,26 +109,8 @@ int main(int argc, char **argv) {
     double *products = calloc(runs, sizeof *products), *frees = calloc(runs, sizeof *frees);
     if (!text || !runs || !products || !frees) return fprintf(stderr, "usage: bench FILE [RUNS]\n"), 2;
 
-    struct cbgrid_columns matrix, product;
-    int code = cbgrid_read(CBGRID_PLUS_TIMES, text, len, NULL, &matrix);
-    size_t made = 0;
-    for (size_t n = 0; n < runs && !code; n++) {
-        double start = now();
-        code = cbgrid_multiply(CBGRID_PLUS_TIMES, 1, &matrix, &matrix, &product);
-        double end = now();
-        if (code) break;
-        made = product.rows_len;
-        cbgrid_free_columns(&product);
-        products[n] = end - start, frees[n] = now() - end;
-    }
-    if (code) return fprintf(stderr, "%s\n", cbgrid_message(code)), 1;
-    printf("%zu entries, %zu entries made\n", matrix.rows_len, made);
-    printf("%.1f us a product of lists, %.1f us to free it\n", median(products, runs), median(frees, runs));
-    code = time_kept(&matrix, runs, products, frees);
-    if (code) return fprintf(stderr, "%s\n", cbgrid_message(code)), 1;
-    printf("%.1f us a product of kept matrices, %.1f us to free it\n", median(products, runs), median(frees, runs));
-    cbgrid_free_columns(&matrix);
-    code = time_graph(text, len, runs, products);
+    int code = time_square(text, len, runs, products, frees);
+    if (!code) code = time_graph(text, len, runs, products);
     if (code) return fprintf(stderr, "%s\n", cbgrid_message(code)), 1;
     free(text), free(products), free(frees);
     return 0;

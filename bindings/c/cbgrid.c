@@ -1,8 +1,8 @@
 /*
  * The C side of cbgrid. It looks for null pointers, replaces the null pointer of an empty list by a valid one, turns
- * the number of a diagonal into a place on it, starts and joins threads, calls the proved library crates/cb_ffi, and
- * frees. Compressed rows are the compressed columns of the transpose: calls on them make two proved calls. The library
- * does everything else.
+ * the number of a diagonal into a place on it, picks the proved product that a struct cbgrid_how asks for, starts and joins
+ * threads, calls the proved library crates/cb_ffi, and frees. Compressed rows are the compressed columns of the transpose:
+ * calls on them make two proved calls. The library does everything else.
  */
 #include "kernel.h"
 
@@ -41,93 +41,8 @@ static int lend(struct cbgrid_columns *to, lent from) {
     return to->columns && to->starts32 && to->starts64 && to->rows && to->values;
 }
 
-/* Writes a result to `out`, which may be one of the operands, and returns the code. */
+/* Writes lists to `out`, and returns the code. */
 static int give(uint32_t code, struct cbgrid_columns made, struct cbgrid_columns *out) {
-    if (code == CBGRID_OK) *out = made;
-    return (int)code;
-}
-
-int cbgrid_multiply(uint32_t semiring, uint32_t grid, lent a, lent b, struct cbgrid_columns *out) {
-    struct cbgrid_columns left, right, made = no_columns();
-    if (!out || !lend(&left, a) || !lend(&right, b)) return CBGRID_NULL_POINTER;
-    return give(cbgrid_kernel_multiply(semiring, grid, &left, &right, &made), made, out);
-}
-
-int cbgrid_multiply_masked(uint32_t semiring, uint32_t grid, lent a, lent b, lent mask, struct cbgrid_columns *out) {
-    struct cbgrid_columns left, right, kept, made = no_columns();
-    if (!out || !lend(&left, a) || !lend(&right, b) || !lend(&kept, mask)) return CBGRID_NULL_POINTER;
-    return give(cbgrid_kernel_multiply_masked(semiring, grid, &left, &right, &kept, &made), made, out);
-}
-
-int cbgrid_vector(uint32_t semiring, uint32_t grid, lent a, lent x, struct cbgrid_columns *out) {
-    struct cbgrid_columns matrix, vector, made = no_columns();
-    if (!out || !lend(&matrix, a) || !lend(&vector, x)) return CBGRID_NULL_POINTER;
-    return give(cbgrid_kernel_vector(semiring, grid, &matrix, &vector, &made), made, out);
-}
-
-int cbgrid_transpose(uint32_t semiring, uint32_t grid, lent a, struct cbgrid_columns *out) {
-    struct cbgrid_columns matrix, made = no_columns();
-    if (!out || !lend(&matrix, a)) return CBGRID_NULL_POINTER;
-    return give(cbgrid_kernel_transpose(semiring, grid, &matrix, &made), made, out);
-}
-
-int cbgrid_row_sums(uint32_t semiring, uint32_t grid, lent a, struct cbgrid_columns *out) {
-    struct cbgrid_columns matrix, made = no_columns();
-    if (!out || !lend(&matrix, a)) return CBGRID_NULL_POINTER;
-    return give(cbgrid_kernel_row_sums(semiring, grid, &matrix, &made), made, out);
-}
-
-int cbgrid_column_sums(uint32_t semiring, uint32_t grid, lent a, struct cbgrid_columns *out) {
-    struct cbgrid_columns matrix, made = no_columns();
-    if (!out || !lend(&matrix, a)) return CBGRID_NULL_POINTER;
-    return give(cbgrid_kernel_column_sums(semiring, grid, &matrix, &made), made, out);
-}
-
-int cbgrid_add(uint32_t semiring, uint32_t grid, lent a, lent b, struct cbgrid_columns *out) {
-    struct cbgrid_columns left, right, made = no_columns();
-    if (!out || !lend(&left, a) || !lend(&right, b)) return CBGRID_NULL_POINTER;
-    return give(cbgrid_kernel_add(semiring, grid, &left, &right, &made), made, out);
-}
-
-int cbgrid_times(uint32_t semiring, uint32_t grid, lent a, lent b, struct cbgrid_columns *out) {
-    struct cbgrid_columns left, right, made = no_columns();
-    if (!out || !lend(&left, a) || !lend(&right, b)) return CBGRID_NULL_POINTER;
-    return give(cbgrid_kernel_times(semiring, grid, &left, &right, &made), made, out);
-}
-
-int cbgrid_prune(uint32_t semiring, uint32_t grid, lent a, uint32_t test, uint64_t bound, struct cbgrid_columns *out) {
-    struct cbgrid_columns matrix, made = no_columns();
-    if (!out || !lend(&matrix, a)) return CBGRID_NULL_POINTER;
-    return give(cbgrid_kernel_prune(semiring, grid, &matrix, test, bound, &made), made, out);
-}
-
-int cbgrid_levels(uint32_t grid, lent a, uint32_t source, struct cbgrid_columns *out) {
-    struct cbgrid_columns graph, made = no_columns();
-    if (!out || !lend(&graph, a)) return CBGRID_NULL_POINTER;
-    return give(cbgrid_kernel_levels(grid, &graph, source, &made), made, out);
-}
-
-int cbgrid_distances(uint32_t grid, lent a, uint32_t source, struct cbgrid_columns *out) {
-    struct cbgrid_columns graph, made = no_columns();
-    if (!out || !lend(&graph, a)) return CBGRID_NULL_POINTER;
-    return give(cbgrid_kernel_distances(grid, &graph, source, &made), made, out);
-}
-
-int cbgrid_read(uint32_t semiring, const void *text, size_t len, uint64_t *line, struct cbgrid_columns *out) {
-    struct cbgrid_columns made = no_columns();
-    uint64_t at = 0;
-    if (!out || (len && !text)) return CBGRID_NULL_POINTER;
-    const unsigned char *bytes = len ? (const unsigned char *)text : (const unsigned char *)&nothing;
-    uint32_t code = cbgrid_kernel_read(semiring, bytes, len, &at, &made);
-    if (line && code == CBGRID_FORMAT) *line = at;
-    return give(code, made, out);
-}
-
-int cbgrid_text(uint32_t semiring, lent a, struct cbgrid_text *out) {
-    struct cbgrid_columns matrix;
-    struct cbgrid_text made = {(const unsigned char *)&nothing, 0};
-    if (!out || !lend(&matrix, a)) return CBGRID_NULL_POINTER;
-    uint32_t code = cbgrid_kernel_text(semiring, &matrix, &made);
     if (code == CBGRID_OK) *out = made;
     return (int)code;
 }
@@ -137,14 +52,14 @@ static void give_back(const void *list, size_t len) {
     if (len) free((void *)list);
 }
 
-void cbgrid_free_columns(struct cbgrid_columns *matrix) {
-    if (!matrix) return;
-    give_back(matrix->columns, matrix->columns_len);
-    give_back(matrix->starts32, matrix->starts32_len);
-    give_back(matrix->starts64, matrix->starts64_len);
-    give_back(matrix->rows, matrix->rows_len);
-    give_back(matrix->values, matrix->values_len);
-    *matrix = no_columns();
+void cbgrid_free_columns(struct cbgrid_columns *lists) {
+    if (!lists) return;
+    give_back(lists->columns, lists->columns_len);
+    give_back(lists->starts32, lists->starts32_len);
+    give_back(lists->starts64, lists->starts64_len);
+    give_back(lists->rows, lists->rows_len);
+    give_back(lists->values, lists->values_len);
+    *lists = no_columns();
 }
 
 void cbgrid_free_text(struct cbgrid_text *text) {
@@ -190,7 +105,7 @@ struct cbgrid_columns cbgrid_csc64(uint32_t nrows, uint32_t ncols, const uint64_
     return made;
 }
 
-/* Writes a kept matrix to `out`, and returns the code. */
+/* Writes a matrix to `out`, and returns the code. */
 static int hand(uint32_t code, struct owned made, struct cbgrid_matrix **out) {
     if (code == CBGRID_OK) *out = made.at;
     return (int)code;
@@ -280,32 +195,6 @@ int cbgrid_matrix_value(const struct cbgrid_matrix *a, uint32_t row, uint32_t co
     if (row >= shape.nrows || column >= shape.ncols) return CBGRID_PLACE;
     *out = cbgrid_kernel_kept_value((kept){a}, row, column);
     return CBGRID_OK;
-}
-
-int cbgrid_matrix_multiply(const struct cbgrid_matrix *a, const struct cbgrid_matrix *b, struct cbgrid_matrix **out) {
-    struct owned made = {NULL};
-    if (!a || !b || !out) return CBGRID_NULL_POINTER;
-    return hand(cbgrid_kernel_kept_multiply((kept){a}, (kept){b}, &made), made, out);
-}
-
-int cbgrid_matrix_multiply_masked(const struct cbgrid_matrix *a, const struct cbgrid_matrix *b,
-                                  const struct cbgrid_matrix *mask, struct cbgrid_matrix **out) {
-    struct owned made = {NULL};
-    if (!a || !b || !mask || !out) return CBGRID_NULL_POINTER;
-    return hand(cbgrid_kernel_kept_multiply_masked((kept){a}, (kept){b}, (kept){mask}, &made), made, out);
-}
-
-int cbgrid_matrix_multiply_outside(const struct cbgrid_matrix *a, const struct cbgrid_matrix *b,
-                                   const struct cbgrid_matrix *mask, struct cbgrid_matrix **out) {
-    struct owned made = {NULL};
-    if (!a || !b || !mask || !out) return CBGRID_NULL_POINTER;
-    return hand(cbgrid_kernel_kept_multiply_outside((kept){a}, (kept){b}, (kept){mask}, &made), made, out);
-}
-
-int cbgrid_matrix_vector(const struct cbgrid_matrix *a, const struct cbgrid_matrix *x, struct cbgrid_matrix **out) {
-    struct owned made = {NULL};
-    if (!a || !x || !out) return CBGRID_NULL_POINTER;
-    return hand(cbgrid_kernel_kept_vector((kept){a}, (kept){x}, &made), made, out);
 }
 
 int cbgrid_matrix_transpose(const struct cbgrid_matrix *a, struct cbgrid_matrix **out) {
@@ -412,13 +301,6 @@ int cbgrid_matrix_update(const struct cbgrid_matrix *a, const struct cbgrid_matr
     if (!a || !b || !out) return CBGRID_NULL_POINTER;
     if (!mask) return hand(cbgrid_kernel_kept_update((kept){a}, (kept){b}, flags, &made), made, out);
     return hand(cbgrid_kernel_kept_update_masked((kept){a}, (kept){b}, (kept){mask}, flags, &made), made, out);
-}
-
-int cbgrid_matrix_multiply_turned(const struct cbgrid_matrix *a, int turn_a, const struct cbgrid_matrix *b, int turn_b,
-                                  struct cbgrid_matrix **out) {
-    struct owned made = {NULL};
-    if (!a || !b || !out) return CBGRID_NULL_POINTER;
-    return hand(cbgrid_kernel_kept_multiply_turned((kept){a}, turn_a != 0, (kept){b}, turn_b != 0, &made), made, out);
 }
 
 int cbgrid_matrix_power(const struct cbgrid_matrix *a, uint32_t factors, struct cbgrid_matrix **out) {
@@ -530,8 +412,8 @@ void cbgrid_matrix_free(struct cbgrid_matrix *a) {
 }
 
 /*
- * ---- Products by several threads, also under a mask and outside one. The library parts the columns of the product, makes
- * the panel of each range, and joins panels. Here a thread is started for each panel.
+ * ---- Products. One thread makes a product by one proved call. For several threads the library parts the columns of the
+ * product, makes the panel of each range, and joins panels; here a thread is started for each panel.
  */
 
 /* Where a product is made: at all places, at those where the mask has an entry, or at those where it has none. */
@@ -614,44 +496,68 @@ static uint32_t join_panels(struct panel *panels, size_t count, struct owned *ou
     return code;
 }
 
-static int by_one_thread(const struct product *p, struct cbgrid_matrix **out) {
+/* The product by one call. A plain product with one column has a call of its own, for vectors. */
+static uint32_t by_one_thread(const struct product *p, struct owned *made) {
+    kept a = {p->a}, b = {p->b}, mask = {p->mask};
     switch (p->places) {
-    case UNDER_MASK: return cbgrid_matrix_multiply_masked(p->a, p->b, p->mask, out);
-    case OUTSIDE_MASK: return cbgrid_matrix_multiply_outside(p->a, p->b, p->mask, out);
-    default: return cbgrid_matrix_multiply(p->a, p->b, out);
+    case UNDER_MASK: return cbgrid_kernel_kept_multiply_masked(a, b, mask, made);
+    case OUTSIDE_MASK: return cbgrid_kernel_kept_multiply_outside(a, b, mask, made);
+    default: break;
     }
+    if (cbgrid_matrix_ncols(p->b) == 1) return cbgrid_kernel_kept_vector(a, b, made);
+    return cbgrid_kernel_kept_multiply(a, b, made);
 }
 
 /* If the columns can't be parted, one thread does it all: it finds the faults in their order, also those of the mask. */
-static int by_threads(const struct product *p, uint32_t threads, struct cbgrid_matrix **out) {
+static uint32_t by_threads(const struct product *p, uint32_t threads, struct owned *made) {
     struct panel panels[CBGRID_MOST_THREADS];
     uint32_t ends[CBGRID_MOST_THREADS];
-    struct owned made = {NULL};
     size_t count = threads < CBGRID_MOST_THREADS ? threads : CBGRID_MOST_THREADS;
-    if (count < 2 || cbgrid_kernel_kept_ends((kept){p->a}, (kept){p->b}, ends, count)) return by_one_thread(p, out);
+    if (count < 2 || cbgrid_kernel_kept_ends((kept){p->a}, (kept){p->b}, ends, count)) return by_one_thread(p, made);
     size_t used = panels_of(p, ends, count, panels);
     make_panels(panels, used);
-    return hand(join_panels(panels, used, &made), made, out);
+    return join_panels(panels, used, made);
 }
 
-int cbgrid_matrix_multiply_threads(const struct cbgrid_matrix *a, const struct cbgrid_matrix *b, uint32_t threads,
-                                   struct cbgrid_matrix **out) {
-    if (!a || !b || !out) return CBGRID_NULL_POINTER;
-    return by_threads(&(struct product){EVERYWHERE, a, b, NULL}, threads, out);
+/* The first fault of a product of which a factor is to be transposed: no memory is taken for that if there is one. A mask that
+ * isn't given has no semiring and no shape. */
+static uint32_t fault_of(const struct product *p, const struct cbgrid_how *how) {
+    struct summary a = summary_of(p->a), b = summary_of(p->b), mask = summary_of(p->mask);
+    if (a.semiring != b.semiring || (p->mask && a.semiring != mask.semiring)) return CBGRID_MIXED;
+    uint32_t rows = how->transpose_a ? a.ncols : a.nrows, left = how->transpose_a ? a.nrows : a.ncols;
+    uint32_t cols = how->transpose_b ? b.nrows : b.ncols, right = how->transpose_b ? b.ncols : b.nrows;
+    if (left != right || (p->mask && (mask.nrows != rows || mask.ncols != cols))) return CBGRID_SHAPES;
+    return CBGRID_OK;
 }
 
-int cbgrid_matrix_multiply_masked_threads(const struct cbgrid_matrix *a, const struct cbgrid_matrix *b,
-                                          const struct cbgrid_matrix *mask, uint32_t threads,
-                                          struct cbgrid_matrix **out) {
-    if (!a || !b || !mask || !out) return CBGRID_NULL_POINTER;
-    return by_threads(&(struct product){UNDER_MASK, a, b, mask}, threads, out);
+/* The same product with the factors transposed that are to be. One thread makes a plain one by one call; otherwise they are
+ * transposed here, and freed again. */
+static uint32_t of_transposed(struct product p, const struct cbgrid_how *how, struct owned *made) {
+    uint32_t turn_a = how->transpose_a != 0, turn_b = how->transpose_b != 0;
+    if (p.places == EVERYWHERE && how->threads < 2) {
+        return cbgrid_kernel_kept_multiply_turned((kept){p.a}, turn_a, (kept){p.b}, turn_b, made);
+    }
+    struct owned a = {NULL}, b = {NULL};
+    uint32_t code = fault_of(&p, how);
+    if (!code && turn_a) code = cbgrid_kernel_kept_transpose((kept){p.a}, &a);
+    if (!code && turn_b) code = cbgrid_kernel_kept_transpose((kept){p.b}, &b);
+    if (a.at) p.a = a.at;
+    if (b.at) p.b = b.at;
+    if (!code) code = by_threads(&p, how->threads, made);
+    cbgrid_matrix_free(a.at);
+    cbgrid_matrix_free(b.at);
+    return code;
 }
 
-int cbgrid_matrix_multiply_outside_threads(const struct cbgrid_matrix *a, const struct cbgrid_matrix *b,
-                                           const struct cbgrid_matrix *mask, uint32_t threads,
-                                           struct cbgrid_matrix **out) {
-    if (!a || !b || !mask || !out) return CBGRID_NULL_POINTER;
-    return by_threads(&(struct product){OUTSIDE_MASK, a, b, mask}, threads, out);
+int cbgrid_matrix_multiply(const struct cbgrid_matrix *a, const struct cbgrid_matrix *b, const struct cbgrid_how *how,
+                           struct cbgrid_matrix **out) {
+    static const struct cbgrid_how plain = {NULL, 0, 0, 0, 0};
+    if (!how) how = &plain;
+    if (!a || !b || !out || (how->complement && !how->mask)) return CBGRID_NULL_POINTER;
+    struct product product = {how->complement ? OUTSIDE_MASK : how->mask ? UNDER_MASK : EVERYWHERE, a, b, how->mask};
+    struct owned made = {NULL};
+    int is_transposed = how->transpose_a || how->transpose_b;
+    return hand(is_transposed ? of_transposed(product, how, &made) : by_threads(&product, how->threads, &made), made, out);
 }
 
 const char *cbgrid_version(void) {
@@ -662,8 +568,8 @@ const char *cbgrid_message(int code) {
     static const char *const messages[] = {
         "done",
         "no such semiring",
-        "grid side not 1 to 6",
         "no such test, region, function, flag or power",
+        "matrices over other semirings",
         "no such form of a matrix",
         "more than 2147483647 rows or columns",
         "lengths of the lists don't agree",
@@ -676,7 +582,6 @@ const char *cbgrid_message(int code) {
         "not a Matrix Market text of this profile",
         "out of memory",
         "null pointer",
-        "matrices over other semirings",
     };
     return code >= 0 && (size_t)code < sizeof messages / sizeof *messages ? messages[code] : "no such code";
 }

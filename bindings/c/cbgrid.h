@@ -2,43 +2,50 @@
  * cbgrid: sparse matrices over semirings. It multiplies, adds, transposes, reduces, prunes and selects, reads and
  * writes Matrix Market texts, and finds levels, distances, parents, components and triangles of graphs.
  *
- * You pass a matrix as compressed columns and get results in the same form. A call checks your arrays where they
- * are and copies their entries once into a block of its own. The arrays need no conversion, and no call writes to
- * them. If you use a matrix more than once, keep it: see `Kept matrices` below.
+ * A matrix is kept by the library, over one semiring. You make it once, of compressed columns or rows, of triples or of a
+ * text, and free it once. It never changes, and a call that makes a matrix of others makes a new one.
  *
  *     uint32_t starts[] = {0, 1, 3}, rows[] = {0, 0, 1};
  *     uint64_t values[] = {1, 2, 3};
- *     struct cbgrid_columns a = cbgrid_csc32(2, 2, starts, rows, values, 3), square;
- *     int code = cbgrid_multiply(CBGRID_PLUS_TIMES, 1, &a, &a, &square);
+ *     struct cbgrid_columns lists = cbgrid_csc32(2, 2, starts, rows, values, 3);
+ *     struct cbgrid_matrix *a = NULL, *square = NULL;
+ *     int code = cbgrid_matrix_of_columns(CBGRID_PLUS_TIMES, &lists, &a);
+ *     if (!code) code = cbgrid_matrix_multiply(a, a, NULL, &square);
  *     if (code) fprintf(stderr, "%s\n", cbgrid_message(code));
- *     else cbgrid_free_columns(&square);
+ *     ..
+ *     cbgrid_matrix_free(square);
+ *     cbgrid_matrix_free(a);
  *
  * Counting. Rows, columns and vertices count from 0. The lines and the entries of a text count from 1, as in every
  * Matrix Market text. A length is a number of elements; the length of a text is in bytes.
  *
  * Errors. A call returns CBGRID_OK (0) if it has written its result. Otherwise it returns the code of the first
- * fault and leaves `out` as it was. It looks for null pointers first, then for the other faults in the order of
- * their codes below, those of a matrix for each operand in turn. CBGRID_MEMORY means that there is no other fault,
- * except while a text is read: then it may come before a fault of the text is found. No call prints, exits, aborts
- * or keeps state between calls. The library needs no initialization and no shutdown.
+ * fault and leaves `out` as it was. It looks for null pointers first, and then, unless its comment gives another order, for
+ * the other faults in the order of their codes. CBGRID_MEMORY means that there is no other fault, except while a text is
+ * read: then it may come before a fault of the text is found. The operands don't change. No call prints, exits, aborts or
+ * keeps state between calls. The library needs no initialization and no shutdown.
  *
- * Memory. Results are malloc'ed; release them with cbgrid_free_columns and cbgrid_free_text. A call only writes to
- * `out`: if `out` still holds a result, free that result first. `out` may be one of the operands if that operand's
- * lists are your own. An operand may be the result of an earlier call, and the same matrix may be passed for several
- * operands.
+ * Each call may return CBGRID_NULL_POINTER and, if it makes something, CBGRID_MEMORY; CBGRID_SEMIRING if it takes a semiring;
+ * and CBGRID_MIXED if it takes several matrices and they are over different semirings. The comments name the other codes.
  *
- * Threads. Any number of threads may call any function at once, also on the same operands, as long as no thread
- * writes to lists or structs that a running call reads. A call runs on the caller's thread alone, except for those whose
- * names end in _threads. Don't call a function from a signal handler.
+ * Memory. A matrix that a call writes to `out` is new and yours; free it with cbgrid_matrix_free. Lists and texts are
+ * malloc'ed; free them with cbgrid_free_columns and cbgrid_free_text. A call only writes to `out`: if `out` still holds a
+ * result, free that result first. Unless its comment says otherwise, a call copies no operand. The same matrix may be
+ * passed for several operands.
+ *
+ * Threads. Any number of threads may call any function at once, also on the same matrices, as long as no thread writes to
+ * lists or structs that a running call reads. Free a matrix only when no running call uses it. A call runs on the caller's
+ * thread alone, except for a product that is given more threads. Don't call a function from a signal handler.
  *
  * What is proved. For every input, each call is proved to stay within the lists that you pass, to terminate, and to
  * give exactly the result that its comment describes. The proofs run whenever libcb_ffi.a is built (docs/PROMISES.md).
  * Not proved are this header and cbgrid.c (null pointers, messages, freeing; that compressed rows are the compressed
- * columns of the transpose; the triples of a kept matrix; which place stands for a diagonal; that threads make each
- * panel of a product, and that all are joined in order), the C compiler, malloc and POSIX threads.
+ * columns of the transpose; the triples of a matrix; which place stands for a diagonal; which of the proved products a
+ * struct cbgrid_how asks for; that threads make each panel of a product, and that all are joined in order), the C compiler,
+ * malloc and POSIX threads.
  *
  * What the library relies on. Pointers are aligned for their type and lead to as many elements as the length says.
- * Nobody changes these elements while a call runs. Kept matrices haven't been freed.
+ * Nobody changes these elements while a call runs. Matrices haven't been freed.
  *
  * The code needs x86-64-v2 (any x86-64 processor since about 2009), and doesn't check for it.
  */
@@ -100,7 +107,7 @@ enum cbgrid_semiring {
     CBGRID_MIN_MAX = 13
 };
 
-/* Which values cbgrid_prune drops: those strictly below a bound, strictly above it, or equal to it. */
+/* Which values cbgrid_matrix_prune drops: those strictly below a bound, strictly above it, or equal to it. */
 enum cbgrid_test {
     CBGRID_BELOW = 0,
     CBGRID_ABOVE = 1,
@@ -138,22 +145,21 @@ enum cbgrid_update {
 /* What a call returns: CBGRID_OK, or the first fault. cbgrid_message describes each in words. */
 enum cbgrid_code {
     CBGRID_OK = 0,
-    CBGRID_SEMIRING = 1,     /* no such semiring */
-    CBGRID_GRID = 2,         /* the side of the grid is not 1 to 6 */
-    CBGRID_TEST = 3,         /* no such test, region, function, flag or power */
-    CBGRID_FORM = 4,         /* `kind` or `wide` is above 1 */
-    CBGRID_TOO_LARGE = 5,    /* more rows or columns than CBGRID_LIMIT */
-    CBGRID_LENGTHS = 6,      /* the lists' lengths don't agree, or the starts don't go from 0 to rows_len */
-    CBGRID_ORDER = 7,        /* starts descend, or columns, or rows in a column, don't ascend strictly */
-    CBGRID_PLACE = 8,        /* an entry, row or column is outside the shape */
-    CBGRID_VALUE = 9,        /* not a value of the semiring */
-    CBGRID_SHAPES = 10,      /* the shapes of the operands don't agree */
-    CBGRID_NOT_SQUARE = 11,  /* the matrix of a graph isn't square */
-    CBGRID_SOURCE = 12,      /* the graph has no such vertex */
-    CBGRID_FORMAT = 13,      /* not a Matrix Market text of the profile (docs/FORMAT.md) */
-    CBGRID_MEMORY = 14,      /* out of memory */
-    CBGRID_NULL_POINTER = 15, /* an argument, or a list that isn't empty, is a null pointer */
-    CBGRID_MIXED = 16         /* the semirings of kept matrices differ, or a call needs another semiring */
+    CBGRID_SEMIRING = 1,      /* no such semiring */
+    CBGRID_TEST = 2,          /* no such test, region, function, flag or power */
+    CBGRID_MIXED = 3,         /* the semirings of matrices differ, or a call needs another semiring */
+    CBGRID_FORM = 4,          /* `kind` or `wide` is above 1 */
+    CBGRID_TOO_LARGE = 5,     /* more rows or columns than CBGRID_LIMIT */
+    CBGRID_LENGTHS = 6,       /* the lists' lengths don't agree, or the starts don't go from 0 to rows_len */
+    CBGRID_ORDER = 7,         /* starts descend, or columns, or rows in a column, don't ascend strictly */
+    CBGRID_PLACE = 8,         /* an entry, row or column is outside the shape */
+    CBGRID_VALUE = 9,         /* not a value of the semiring */
+    CBGRID_SHAPES = 10,       /* the shapes of the operands don't agree */
+    CBGRID_NOT_SQUARE = 11,   /* the matrix of a graph isn't square */
+    CBGRID_SOURCE = 12,       /* the graph has no such vertex */
+    CBGRID_FORMAT = 13,       /* not a Matrix Market text of the profile (docs/FORMAT.md) */
+    CBGRID_MEMORY = 14,       /* out of memory */
+    CBGRID_NULL_POINTER = 15  /* an argument, or a list that isn't empty, is a null pointer */
 };
 
 /* What `kind` and `wide` of struct cbgrid_columns may be. */
@@ -161,7 +167,7 @@ enum { CBGRID_DCSC = 0, CBGRID_CSC = 1 };
 enum { CBGRID_STARTS_32 = 0, CBGRID_STARTS_64 = 1 };
 
 /*
- * A matrix in compressed columns.
+ * A matrix in compressed columns: what matrices are made of, and what they give back.
  *
  * The entries are listed column by column, and by row in each column: the nth entry is in row rows[n] and has the
  * value values[n]. The entries of the kth stored column are those from starts[k] up to starts[k + 1]. In
@@ -178,10 +184,11 @@ enum { CBGRID_STARTS_32 = 0, CBGRID_STARTS_64 = 1 };
  *   rows            strictly ascending in each column, below nrows.
  *   values          as many as rows; values of the semiring.
  *
- * A call ignores an entry whose value is the semiring's zero. A stored column may have no entries. A list of
- * length 0 may have a null pointer.
+ * A call checks the lists where they are, and writes nothing to them. It ignores an entry whose value is the semiring's
+ * zero. A stored column may have no entries. A list of length 0 may have a null pointer.
  *
- * A result is CBGRID_DCSC with CBGRID_STARTS_64, names only columns that have entries, and lists no zero.
+ * The lists that a matrix gives back are CBGRID_DCSC with CBGRID_STARTS_64, name only columns that have entries, and have no
+ * zero.
  */
 struct cbgrid_columns {
     uint32_t nrows;
@@ -221,113 +228,12 @@ struct cbgrid_columns cbgrid_dcsc32(uint32_t nrows, uint32_t ncols, const uint32
 struct cbgrid_columns cbgrid_dcsc64(uint32_t nrows, uint32_t ncols, const uint32_t *columns, size_t stored,
                                     const uint64_t *starts, const uint32_t *rows, const uint64_t *values, size_t len);
 
-/*
- * The calls below check their lists and write a new result to `out`, which you free with cbgrid_free_columns (or
- * cbgrid_free_text). `semiring` is one of enum cbgrid_semiring. `grid` is the side of a grid, 1 to 6. It is checked and
- * has no other effect: each call works on whole matrices, on the caller's thread.
- *
- * Each call may return CBGRID_SEMIRING (if it takes a semiring), CBGRID_GRID (if it takes a grid), CBGRID_FORM to
- * CBGRID_VALUE, CBGRID_MEMORY and CBGRID_NULL_POINTER. The comments name the other codes.
- *
- * Besides what its comment says, a call costs a walk over the entries and the stored columns of its operands (in CSC
- * all columns).
- */
-
-/* Multiplies a and b: the entry at row i and column j is the sum over k of a(i, k) times b(k, j). CBGRID_SHAPES if a
- * doesn't have as many columns as b has rows. Costs the products of matching entries. */
-int cbgrid_multiply(uint32_t semiring, uint32_t grid, const struct cbgrid_columns *a, const struct cbgrid_columns *b,
-                    struct cbgrid_columns *out);
-
-/* Multiplies a and b at the places where mask has an entry, whatever its value. CBGRID_SHAPES if a doesn't have as many
- * columns as b has rows, or the mask doesn't have the product's shape. Computes only the entries that the mask allows:
- * it costs the mask's entries and the products of matching entries in the mask's columns. */
-int cbgrid_multiply_masked(uint32_t semiring, uint32_t grid, const struct cbgrid_columns *a,
-                           const struct cbgrid_columns *b, const struct cbgrid_columns *mask,
-                           struct cbgrid_columns *out);
-
-/* Multiplies a and the vector x. Both x and the result are matrices of one column. CBGRID_SHAPES if x doesn't have one
- * column, or doesn't have as many rows as a has columns. Costs the entries of the columns of a for which x has an
- * entry. */
-int cbgrid_vector(uint32_t semiring, uint32_t grid, const struct cbgrid_columns *a, const struct cbgrid_columns *x,
-                  struct cbgrid_columns *out);
-
-/* Transposes a. Costs a few walks over the entries, or a sort of them if a has more than four rows for each entry. */
-int cbgrid_transpose(uint32_t semiring, uint32_t grid, const struct cbgrid_columns *a, struct cbgrid_columns *out);
-
-/* Adds up each row of a. The result is one column with as many rows as a. A sum that is zero isn't stored. Costs a
- * walk over the entries and the rows, or a transpose of a if it has more than four rows for each entry. */
-int cbgrid_row_sums(uint32_t semiring, uint32_t grid, const struct cbgrid_columns *a, struct cbgrid_columns *out);
-
-/* Adds up each column of a. The result is one row with as many columns as a. A sum that is zero isn't stored. */
-int cbgrid_column_sums(uint32_t semiring, uint32_t grid, const struct cbgrid_columns *a, struct cbgrid_columns *out);
-
-/* Adds two matrices element-wise: a place that only one of them stores keeps its value. CBGRID_SHAPES if their shapes
- * differ. */
-int cbgrid_add(uint32_t semiring, uint32_t grid, const struct cbgrid_columns *a, const struct cbgrid_columns *b,
-               struct cbgrid_columns *out);
-
-/* Multiplies two matrices element-wise: only places that both store can have an entry. CBGRID_SHAPES if their shapes
- * differ. */
-int cbgrid_times(uint32_t semiring, uint32_t grid, const struct cbgrid_columns *a, const struct cbgrid_columns *b,
-                 struct cbgrid_columns *out);
-
-/* Drops the entries of a whose value passes the test (enum cbgrid_test) against the bound. CBGRID_TEST if there is no
- * such test. Values are compared as whole numbers from 0 to 2^64 - 1. */
-int cbgrid_prune(uint32_t semiring, uint32_t grid, const struct cbgrid_columns *a, uint32_t test, uint64_t bound,
-                 struct cbgrid_columns *out);
-
-/* Breadth-first search: finds the least number of edges from the source to each vertex of a graph. a is over OR_AND. An
- * entry at row i and column j is an edge from i to j. CBGRID_NOT_SQUARE if a isn't square, CBGRID_SOURCE if the source
- * isn't below nrows. The result is one column over MIN_PLUS with an entry for each vertex that the source reaches. The
- * source has level 0, which is stored: the zero of MIN_PLUS is 2^64 - 1. Costs a few looks for each entry if most vertices
- * are a few edges away, and otherwise what cbgrid_distances costs. */
-int cbgrid_levels(uint32_t grid, const struct cbgrid_columns *a, uint32_t source, struct cbgrid_columns *out);
-
-/* Shortest paths: finds the least sum of edge lengths from the source to each vertex of a graph. Like cbgrid_levels,
- * but a is over MIN_PLUS, and the value of an entry is the length of its edge. A vertex at a distance of 2^64 - 1 or
- * more has no entry. Costs a transpose of a, then at most 16 rounds over the edges of the vertices whose distance fell,
- * and for the rest Dijkstra's algorithm with a heap. */
-int cbgrid_distances(uint32_t grid, const struct cbgrid_columns *a, uint32_t source, struct cbgrid_columns *out);
-
-/* Reads the matrix of a Matrix Market text of `len` bytes, in the profile of docs/FORMAT.md. CBGRID_FORMAT if the text
- * has a fault: then, and only then, the call writes the line of the first fault, counted from 1, to `line`, unless
- * `line` is a null pointer. Costs one walk over the text, and a sort of entries that don't ascend by column and then
- * by row. */
-int cbgrid_read(uint32_t semiring, const void *text, size_t len, uint64_t *line, struct cbgrid_columns *out);
-
-/* Writes the Matrix Market text of a, by column and then by row: `pattern` in OR_AND, `integer` in the others.
- * cbgrid_read reads the same matrix back if it has at most 2147483647 entries. */
-int cbgrid_text(uint32_t semiring, const struct cbgrid_columns *a, struct cbgrid_text *out);
-
-/* Free the lists of a result, or its bytes, and leave it empty, so that a second call does nothing. Never pass a matrix
- * over lists of your own. A null pointer is allowed. */
-void cbgrid_free_columns(struct cbgrid_columns *matrix);
+/* Free the lists of a result, or its bytes, and leave it empty, so that a second call does nothing. Never pass lists of
+ * your own. A null pointer is allowed. */
+void cbgrid_free_columns(struct cbgrid_columns *lists);
 void cbgrid_free_text(struct cbgrid_text *text);
 
-/*
- * ---- Kept matrices
- *
- * The calls above check their lists, copy them into blocks of their own, and return lists. A kept matrix is such a
- * block, over one semiring. You make it once and free it once; it never changes. Unless its comment says otherwise, a call on
- * kept matrices copies no operand.
- *
- *     struct cbgrid_matrix *graph, *walks;
- *     int code = cbgrid_matrix_of_columns(CBGRID_PLUS_TIMES, &lists, &graph);
- *     if (!code) code = cbgrid_matrix_multiply(graph, graph, &walks);
- *     ..
- *     cbgrid_matrix_free(walks);
- *     cbgrid_matrix_free(graph);
- *
- * Errors. As above: a call returns the code of the first fault and leaves `out` as it was. It looks for
- * CBGRID_NULL_POINTER first. Unless the comment of a call gives another order, it then looks for CBGRID_TEST,
- * CBGRID_MIXED, CBGRID_SHAPES, CBGRID_NOT_SQUARE and CBGRID_SOURCE, all before it takes memory. CBGRID_MEMORY
- * comes last. The operands don't change.
- *
- * Memory. A matrix that a call writes to `out` is new and yours; free it with cbgrid_matrix_free. A call doesn't free
- * the matrix that `out` pointed to before.
- *
- * Threads. Any number of threads may use one matrix at once. Free a matrix only when no running call uses it.
- */
+/* A matrix over a semiring, kept by the library. */
 struct cbgrid_matrix;
 
 /* An entry: its row, its column and its value. */
@@ -337,8 +243,8 @@ struct cbgrid_triple {
     uint64_t value;
 };
 
-/* Makes a kept matrix of lists, over a semiring. Copies the lists once; they stay yours. CBGRID_SEMIRING, and
- * CBGRID_FORM to CBGRID_VALUE. */
+/* Makes a matrix of lists, over a semiring. Copies the lists once; they stay yours. CBGRID_FORM to CBGRID_VALUE. Costs a walk
+ * over the entries and the stored columns (in CSC all columns). */
 int cbgrid_matrix_of_columns(uint32_t semiring, const struct cbgrid_columns *lists, struct cbgrid_matrix **out);
 
 /* The same from compressed rows (CSR, or doubly compressed). `rows` has the lists of the transpose: its nrows is the
@@ -346,16 +252,14 @@ int cbgrid_matrix_of_columns(uint32_t semiring, const struct cbgrid_columns *lis
  * Also costs a transpose. */
 int cbgrid_matrix_of_rows(uint32_t semiring, const struct cbgrid_columns *rows, struct cbgrid_matrix **out);
 
-/* Makes a kept matrix of `len` triples, in any order. Values at one place are added up in the semiring, and a sum that
- * is zero isn't stored. CBGRID_SEMIRING, CBGRID_TOO_LARGE, CBGRID_PLACE, CBGRID_VALUE, in this order. With a length
- * of 0, `triples` may be a null pointer. Costs a sort of the triples, or one walk if they ascend by column and then
+/* Makes a matrix of `len` triples, in any order. Values at one place are added up in the semiring, and a sum that is zero
+ * isn't stored. CBGRID_TOO_LARGE, CBGRID_PLACE, CBGRID_VALUE. With a length of 0, `triples` may be a null pointer. Costs a sort of the triples, or one walk if they ascend by column and then
  * by row. */
 int cbgrid_matrix_of_triples(uint32_t semiring, uint32_t nrows, uint32_t ncols, const struct cbgrid_triple *triples,
                              size_t len, struct cbgrid_matrix **out);
 
 /* Copy the lists of a matrix: its compressed columns, or its compressed rows, which are the compressed columns of the
- * transpose. The form is that of the results above; free them with cbgrid_free_columns. cbgrid_matrix_rows also costs
- * a transpose. */
+ * transpose. Free them with cbgrid_free_columns. cbgrid_matrix_rows also costs a transpose. */
 int cbgrid_matrix_columns(const struct cbgrid_matrix *a, struct cbgrid_columns *out);
 int cbgrid_matrix_rows(const struct cbgrid_matrix *a, struct cbgrid_columns *out);
 
@@ -374,17 +278,62 @@ uint64_t cbgrid_matrix_entries(const struct cbgrid_matrix *a);
  * outside the shape. Costs two binary searches, and takes no memory. */
 int cbgrid_matrix_value(const struct cbgrid_matrix *a, uint32_t row, uint32_t column, uint64_t *out);
 
-/* Do what the calls of the same names above do, with the same codes. CBGRID_MIXED if the operands are over different
- * semirings. The result is over the semiring of the operands. */
-int cbgrid_matrix_multiply(const struct cbgrid_matrix *a, const struct cbgrid_matrix *b, struct cbgrid_matrix **out);
-int cbgrid_matrix_multiply_masked(const struct cbgrid_matrix *a, const struct cbgrid_matrix *b,
-                                  const struct cbgrid_matrix *mask, struct cbgrid_matrix **out);
-int cbgrid_matrix_vector(const struct cbgrid_matrix *a, const struct cbgrid_matrix *x, struct cbgrid_matrix **out);
+/*
+ * How two matrices are multiplied. A null pointer, or a struct of which each member is 0, asks for the plain product on the
+ * caller's thread. Name the members that you set, as in (struct cbgrid_how){.threads = 4}: the others are then 0.
+ */
+struct cbgrid_how {
+    const struct cbgrid_matrix *mask; /* makes the product only at the places where this matrix has an entry, whatever its
+                                         value; a null pointer: everywhere */
+    int complement;                   /* not 0: only at the places where the mask has no entry */
+    int transpose_a, transpose_b;     /* not 0: multiplies the transpose of a, or of b */
+    uint32_t threads;                 /* by up to this many threads, at most CBGRID_MOST_THREADS: the caller's and new ones,
+                                         which have ended when the call returns */
+};
+
+/*
+ * Multiplies a and b: the entry at row i and column j is the sum over k of a(i, k) times b(k, j). A sum that is zero isn't
+ * stored. b may be a vector, a matrix of one column. CBGRID_NULL_POINTER also for the complement of a mask that isn't given.
+ * CBGRID_SHAPES if the first factor doesn't have as many columns as the second has rows, or the mask doesn't have the
+ * product's shape.
+ *
+ * Costs the products of matching entries. A transposed factor also costs the transpose. Under a mask only what the mask
+ * allows is computed: it costs the mask's entries and the products of matching entries in the mask's columns. Outside a mask
+ * it costs at most the product and a walk over the mask, and nothing is stored at the mask's places on the way.
+ *
+ * Each thread makes some columns. All make about the same number of products of matching entries, also of those that a mask
+ * spares, and about 65536 or more: a small product takes fewer threads. The caller's thread also does what no new thread can
+ * be started for, and joins the columns. Besides the products, several threads cost a pass over the entries of b, an index of
+ * the columns of a for each, and a copy of the result except for the columns of the first thread.
+ */
+int cbgrid_matrix_multiply(const struct cbgrid_matrix *a, const struct cbgrid_matrix *b, const struct cbgrid_how *how,
+                           struct cbgrid_matrix **out);
+
+/* Transposes a. Costs a few walks over the entries, or a sort of them if a has more than four rows for each entry. */
 int cbgrid_matrix_transpose(const struct cbgrid_matrix *a, struct cbgrid_matrix **out);
+
+/* Adds up each row of a. The result is one column with as many rows as a. A sum that is zero isn't stored. Costs a
+ * walk over the entries and the rows, or a transpose of a if it has more than four rows for each entry. */
 int cbgrid_matrix_row_sums(const struct cbgrid_matrix *a, struct cbgrid_matrix **out);
+
+/* Adds up each column of a. The result is one row with as many columns as a. A sum that is zero isn't stored. Costs a walk
+ * over the entries. */
 int cbgrid_matrix_column_sums(const struct cbgrid_matrix *a, struct cbgrid_matrix **out);
+
+/* Writes the semiring's sum of all values of a to `out`: its zero if a has no entries. Costs a walk over the values,
+ * and takes no memory. */
+int cbgrid_matrix_reduce_all(const struct cbgrid_matrix *a, uint64_t *out);
+
+/* Adds two matrices element-wise: a place that only one of them stores keeps its value. CBGRID_SHAPES if their shapes
+ * differ. Costs a walk over the entries of both. */
 int cbgrid_matrix_add(const struct cbgrid_matrix *a, const struct cbgrid_matrix *b, struct cbgrid_matrix **out);
+
+/* Multiplies two matrices element-wise: only places that both store can have an entry. CBGRID_SHAPES if their shapes
+ * differ. Costs a walk over the entries of both. */
 int cbgrid_matrix_times(const struct cbgrid_matrix *a, const struct cbgrid_matrix *b, struct cbgrid_matrix **out);
+
+/* Drops the entries of a whose value passes the test (enum cbgrid_test) against the bound. CBGRID_TEST if there is no
+ * such test. Values are compared as whole numbers from 0 to 2^64 - 1. Costs a walk over the entries. */
 int cbgrid_matrix_prune(const struct cbgrid_matrix *a, uint32_t test, uint64_t bound, struct cbgrid_matrix **out);
 
 /*
@@ -423,33 +372,22 @@ int cbgrid_matrix_part(const struct cbgrid_matrix *a, uint32_t row, uint32_t row
 int cbgrid_matrix_extract(const struct cbgrid_matrix *a, const uint32_t *rows, size_t row_count,
                           const uint32_t *columns, size_t column_count, struct cbgrid_matrix **out);
 
-/* Makes the Kronecker product: each value of a is replaced by its products with all of b. CBGRID_MIXED if their
- * semirings differ, then CBGRID_TOO_LARGE if the result has more than CBGRID_LIMIT rows or columns. Costs the entries
+/* Makes the Kronecker product: each value of a is replaced by its products with all of b. CBGRID_TOO_LARGE if the result has more than CBGRID_LIMIT rows or columns. Costs the entries
  * of a times those of b. */
 int cbgrid_matrix_kron(const struct cbgrid_matrix *a, const struct cbgrid_matrix *b, struct cbgrid_matrix **out);
 
 /* Makes a copy of a in which `part` replaces the part of its shape that begins at (row, column). All entries of a in
- * that part are dropped, whether or not `part` has an entry in their places. CBGRID_MIXED if their semirings differ, then
- * CBGRID_PLACE if the part ends beyond a. Costs a walk over the entries of both. */
+ * that part are dropped, whether or not `part` has an entry in their places. CBGRID_PLACE if the part ends beyond a. Costs a walk over the entries of both. */
 int cbgrid_matrix_assign(const struct cbgrid_matrix *a, uint32_t row, uint32_t column,
                          const struct cbgrid_matrix *part, struct cbgrid_matrix **out);
 
 /* Selects the entries of a at the places where the mask has none: a complemented mask. The values of the mask don't
- * matter. CBGRID_MIXED if their semirings differ, then CBGRID_SHAPES if their shapes do. Costs a walk over the entries
- * of both. */
+ * matter. CBGRID_SHAPES if their shapes differ. Costs a walk over the entries of both. */
 int cbgrid_matrix_exclude(const struct cbgrid_matrix *a, const struct cbgrid_matrix *mask, struct cbgrid_matrix **out);
 
-/* Multiplies a and b at the places where the mask has no entry: what cbgrid_matrix_exclude leaves of the product, with
- * the codes of cbgrid_matrix_multiply_masked. Costs at most the product and a walk over the mask. Nothing is stored at
- * the mask's places on the way. */
-int cbgrid_matrix_multiply_outside(const struct cbgrid_matrix *a, const struct cbgrid_matrix *b,
-                                   const struct cbgrid_matrix *mask, struct cbgrid_matrix **out);
-
 /*
- * ---- Calls that other calls are built from
- *
- * cbgrid_matrix_update writes the result of any call back to a matrix, as GraphBLAS does at the end of each operation.
- * It makes a matrix of the shape of a from it and from b, of the same shape:
+ * Writes the result of any call back to a matrix, as GraphBLAS does at the end of each operation.
+ * The new matrix is made of a and of b, which has the shape of a:
  *
  *   at a place that is allowed      the value of b or, with CBGRID_ACCUMULATE, the sum of that of a and that of b
  *   at any other place              the value of a or, with CBGRID_REPLACE, none
@@ -458,17 +396,11 @@ int cbgrid_matrix_multiply_outside(const struct cbgrid_matrix *a, const struct c
  * mask is a null pointer, all places are allowed; with CBGRID_COMPLEMENT, none. At an allowed place where b has no
  * entry, the entry of a is dropped, unless the call accumulates.
  *
- * `flags` is a sum of enum cbgrid_update, or 0. CBGRID_TEST if it is above 7, then CBGRID_MIXED if the semirings of the
- * three differ, then CBGRID_SHAPES if their shapes do. Costs a few walks over the entries of the three.
+ * `flags` is a sum of enum cbgrid_update, or 0. CBGRID_TEST if it is above 7, then CBGRID_MIXED, then CBGRID_SHAPES if the
+ * shapes of the three differ. Costs a few walks over the entries of the three.
  */
 int cbgrid_matrix_update(const struct cbgrid_matrix *a, const struct cbgrid_matrix *b, const struct cbgrid_matrix *mask,
                          uint32_t flags, struct cbgrid_matrix **out);
-
-/* Multiplies a and b as cbgrid_matrix_multiply does, after transposing a if turn_a isn't 0, and b if turn_b isn't 0.
- * CBGRID_MIXED if their semirings differ, then CBGRID_SHAPES if the shapes of the factors don't agree. Also costs the
- * transposes. */
-int cbgrid_matrix_multiply_turned(const struct cbgrid_matrix *a, int turn_a, const struct cbgrid_matrix *b, int turn_b,
-                                  struct cbgrid_matrix **out);
 
 /* Makes the power of a with this many factors, multiplied from the left: ((a a) a) a and so on. (In some semirings the
  * product isn't associative.) CBGRID_TEST if there are no factors, then CBGRID_NOT_SQUARE. Costs one product less than
@@ -483,13 +415,21 @@ int cbgrid_matrix_power(const struct cbgrid_matrix *a, uint32_t factors, struct 
 int cbgrid_matrix_row_degrees(const struct cbgrid_matrix *a, struct cbgrid_matrix **out);
 int cbgrid_matrix_column_degrees(const struct cbgrid_matrix *a, struct cbgrid_matrix **out);
 
-/* Writes the semiring's sum of all values of a to `out`: its zero if a has no entries. Costs a walk over the values,
- * and takes no memory. */
-int cbgrid_matrix_reduce_all(const struct cbgrid_matrix *a, uint64_t *out);
-
-/* Do what cbgrid_levels does in a graph over OR_AND, and cbgrid_distances in a graph over MIN_PLUS; CBGRID_MIXED if the
- * graph is over another semiring. The result is over MIN_PLUS. The costs are those of these calls. */
+/*
+ * Breadth-first search: finds the least number of edges from the source to each vertex of a graph over OR_AND. An entry at row
+ * i and column j is an edge from i to j. CBGRID_MIXED if a is over another semiring, then CBGRID_NOT_SQUARE, then
+ * CBGRID_SOURCE if the source isn't a vertex. The result is one column over MIN_PLUS with an entry for each vertex that the
+ * source reaches. The source has level 0, which is stored: the zero of MIN_PLUS is 2^64 - 1. Costs a few looks for each entry
+ * if most vertices are a few edges away, and otherwise what cbgrid_matrix_distances costs.
+ */
 int cbgrid_matrix_levels(const struct cbgrid_matrix *a, uint32_t source, struct cbgrid_matrix **out);
+
+/*
+ * Shortest paths: finds the least sum of edge lengths from the source to each vertex of a graph over MIN_PLUS. The value of an
+ * entry is the length of its edge. The codes are those of cbgrid_matrix_levels. A vertex at a distance of 2^64 - 1 or more has
+ * no entry. Costs a transpose of a, then at most 16 rounds over the edges of the vertices whose distance fell, and for the
+ * rest Dijkstra's algorithm with a heap.
+ */
 int cbgrid_matrix_distances(const struct cbgrid_matrix *a, uint32_t source, struct cbgrid_matrix **out);
 
 /* The same from each of `count` sources, in any order, with repetitions: column j of the result is that of sources[j].
@@ -528,34 +468,18 @@ int cbgrid_matrix_parents(const struct cbgrid_matrix *a, uint32_t source, struct
 int cbgrid_matrix_components(const struct cbgrid_matrix *a, struct cbgrid_matrix **out);
 int cbgrid_matrix_triangles(const struct cbgrid_matrix *a, uint64_t *out);
 
-/* Read a text into a kept matrix, and write the text of one, as cbgrid_read and cbgrid_text do. Free the text with
- * cbgrid_free_text. If the entries of a text don't ascend by column and then by row, reading takes memory for a list of
- * them, 16 bytes for each, until it returns. */
+/* Reads the matrix of a Matrix Market text of `len` bytes, in the profile of docs/FORMAT.md. CBGRID_FORMAT if the text
+ * has a fault: then, and only then, the call writes the line of the first fault, counted from 1, to `line`, unless
+ * `line` is a null pointer. Costs one walk over the text. If the entries don't ascend by column and then by row, it also costs
+ * a sort, and memory for a list of them, 16 bytes for each, until it returns. */
 int cbgrid_matrix_read(uint32_t semiring, const void *text, size_t len, uint64_t *line, struct cbgrid_matrix **out);
+
+/* Writes the Matrix Market text of a, by column and then by row: `pattern` in OR_AND, `integer` in the others.
+ * cbgrid_matrix_read reads the same matrix back if it has at most 2147483647 entries. Free the text with
+ * cbgrid_free_text. */
 int cbgrid_matrix_text(const struct cbgrid_matrix *a, struct cbgrid_text *out);
 
-/*
- * Multiplies a and b as cbgrid_matrix_multiply does, with the same codes and the same result, by up to `threads`
- * threads, and at most CBGRID_MOST_THREADS: the caller's and new ones, which have ended when the call returns. With
- * 0 or 1 the caller's thread does everything. Each thread makes some columns. All make about the same number of products
- * of matching entries, and about 65536 or more: a small product takes fewer threads. The caller's thread also does what
- * no new thread can be started for, and joins the columns. Besides the products, it costs a pass over the entries of b,
- * an index of the columns of a for each thread, and a copy of the result except for the columns of the first thread.
- */
-int cbgrid_matrix_multiply_threads(const struct cbgrid_matrix *a, const struct cbgrid_matrix *b, uint32_t threads,
-                                   struct cbgrid_matrix **out);
-
-/* The same under a mask, as cbgrid_matrix_multiply_masked multiplies, and outside it, as cbgrid_matrix_multiply_outside
- * does: with the codes and the result of these. Columns are divided by all products of matching entries, also by those
- * that the mask spares. */
-int cbgrid_matrix_multiply_masked_threads(const struct cbgrid_matrix *a, const struct cbgrid_matrix *b,
-                                          const struct cbgrid_matrix *mask, uint32_t threads,
-                                          struct cbgrid_matrix **out);
-int cbgrid_matrix_multiply_outside_threads(const struct cbgrid_matrix *a, const struct cbgrid_matrix *b,
-                                           const struct cbgrid_matrix *mask, uint32_t threads,
-                                           struct cbgrid_matrix **out);
-
-/* Frees a kept matrix. Call it once for each. A null pointer is allowed. */
+/* Frees a matrix. Call it once for each. A null pointer is allowed. */
 void cbgrid_matrix_free(struct cbgrid_matrix *a);
 
 /* Returns the version of the library, such as "0.1.0": a static string, which you don't free. */

@@ -18,33 +18,39 @@ static const char roads[] =
     "2 4\n"
     "3 4\n";
 
-/* A result lists its stored columns, and where the entries of each start. */
-static void print_entries(const struct cbgrid_columns *matrix) {
-    for (size_t k = 0; k < matrix->columns_len; k++) {
-        for (uint64_t n = matrix->starts64[k]; n < matrix->starts64[k + 1]; n++) {
-            printf("%" PRIu32 " to %" PRIu32 ": %" PRIu64 " walks\n", matrix->rows[n], matrix->columns[k],
-                   matrix->values[n]);
+/* The lists of a matrix name its stored columns, and where the entries of each start. */
+static int print_entries(const struct cbgrid_matrix *matrix) {
+    struct cbgrid_columns lists;
+    int code = cbgrid_matrix_columns(matrix, &lists);
+    if (code) return code;
+    for (size_t k = 0; k < lists.columns_len; k++) {
+        for (uint64_t n = lists.starts64[k]; n < lists.starts64[k + 1]; n++) {
+            printf("%" PRIu32 " to %" PRIu32 ": %" PRIu64 " walks\n", lists.rows[n], lists.columns[k], lists.values[n]);
         }
     }
+    cbgrid_free_columns(&lists);
+    return code;
+}
+
+static int print_text(const struct cbgrid_matrix *matrix) {
+    struct cbgrid_text text;
+    int code = cbgrid_matrix_text(matrix, &text);
+    if (code) return code;
+    fwrite(text.bytes, 1, text.len, stdout);
+    cbgrid_free_text(&text);
+    return code;
 }
 
 int main(void) {
-    struct cbgrid_columns graph, walks;
-    struct cbgrid_text text;
+    struct cbgrid_matrix *graph = NULL, *walks = NULL;
     uint64_t line;
-    int code = cbgrid_read(CBGRID_PLUS_TIMES, roads, strlen(roads), &line, &graph);
+    int code = cbgrid_matrix_read(CBGRID_PLUS_TIMES, roads, strlen(roads), &line, &graph);
     if (code == CBGRID_FORMAT) fprintf(stderr, "line %" PRIu64 ": ", line);
-    if (code) return fprintf(stderr, "%s\n", cbgrid_message(code)), 1;
-
-    code = cbgrid_multiply(CBGRID_PLUS_TIMES, 1, &graph, &graph, &walks);
-    cbgrid_free_columns(&graph);
-    if (code) return fprintf(stderr, "%s\n", cbgrid_message(code)), 1;
-    print_entries(&walks);
-
-    code = cbgrid_text(CBGRID_PLUS_TIMES, &walks, &text);
-    cbgrid_free_columns(&walks);
-    if (code) return fprintf(stderr, "%s\n", cbgrid_message(code)), 1;
-    fwrite(text.bytes, 1, text.len, stdout);
-    cbgrid_free_text(&text);
-    return 0;
+    if (!code) code = cbgrid_matrix_multiply(graph, graph, NULL, &walks);
+    if (!code) code = print_entries(walks);
+    if (!code) code = print_text(walks);
+    cbgrid_matrix_free(walks);
+    cbgrid_matrix_free(graph);
+    if (code) fprintf(stderr, "%s\n", cbgrid_message(code));
+    return code != 0;
 }

@@ -1,6 +1,6 @@
 /*
- * The exports of the proved library crates/cb_ffi, and the layouts of what they take. Its references are pointers that
- * are never null.
+ * The layouts of what the proved library crates/cb_ffi takes, and its exports. Its references are pointers that are never
+ * null.
  */
 #ifndef CBGRID_KERNEL_H
 #define CBGRID_KERNEL_H
@@ -72,28 +72,6 @@ _Static_assert(sizeof(struct cbgrid_text) == 16 && sizeof(struct kernel_text) ==
 _Static_assert(offsetof(struct cbgrid_text, bytes) == offsetof(struct kernel_text, bytes.at), "bytes");
 _Static_assert(offsetof(struct cbgrid_text, len) == offsetof(struct kernel_text, bytes.len), "len");
 
-/* ---- Calls on lists. */
-
-typedef const struct cbgrid_columns *lent;
-uint32_t cbgrid_kernel_multiply(uint32_t semiring, uint32_t grid, lent a, lent b, struct cbgrid_columns *out);
-uint32_t cbgrid_kernel_multiply_masked(uint32_t semiring, uint32_t grid, lent a, lent b, lent mask,
-                                       struct cbgrid_columns *out);
-uint32_t cbgrid_kernel_vector(uint32_t semiring, uint32_t grid, lent a, lent x, struct cbgrid_columns *out);
-uint32_t cbgrid_kernel_transpose(uint32_t semiring, uint32_t grid, lent a, struct cbgrid_columns *out);
-uint32_t cbgrid_kernel_row_sums(uint32_t semiring, uint32_t grid, lent a, struct cbgrid_columns *out);
-uint32_t cbgrid_kernel_column_sums(uint32_t semiring, uint32_t grid, lent a, struct cbgrid_columns *out);
-uint32_t cbgrid_kernel_add(uint32_t semiring, uint32_t grid, lent a, lent b, struct cbgrid_columns *out);
-uint32_t cbgrid_kernel_times(uint32_t semiring, uint32_t grid, lent a, lent b, struct cbgrid_columns *out);
-uint32_t cbgrid_kernel_prune(uint32_t semiring, uint32_t grid, lent a, uint32_t test, uint64_t bound,
-                             struct cbgrid_columns *out);
-uint32_t cbgrid_kernel_levels(uint32_t grid, lent a, uint32_t source, struct cbgrid_columns *out);
-uint32_t cbgrid_kernel_distances(uint32_t grid, lent a, uint32_t source, struct cbgrid_columns *out);
-uint32_t cbgrid_kernel_read(uint32_t semiring, const unsigned char *text, size_t len, uint64_t *line,
-                            struct cbgrid_columns *out);
-uint32_t cbgrid_kernel_text(uint32_t semiring, lent a, struct cbgrid_text *out);
-
-/* ---- Kept matrices. */
-
 /* A kept matrix is passed by its address, whether the call borrows it or owns it. */
 struct owned {
     struct cbgrid_matrix *at;
@@ -110,60 +88,9 @@ _Static_assert(sizeof(struct summary) == 24 && offsetof(struct summary, entries)
 _Static_assert(sizeof(struct cbgrid_triple) == 16 && offsetof(struct cbgrid_triple, value) == 8, "triple");
 
 typedef struct borrowed kept;
-uint32_t cbgrid_kernel_keep(uint32_t semiring, lent a, struct owned *out);
-uint32_t cbgrid_kernel_keep_triples(uint32_t semiring, uint32_t nrows, uint32_t ncols,
-                                    const struct cbgrid_triple *triples, size_t len, struct owned *out);
-uint32_t cbgrid_kernel_kept_multiply(kept a, kept b, struct owned *out);
-uint32_t cbgrid_kernel_kept_multiply_masked(kept a, kept b, kept mask, struct owned *out);
-uint32_t cbgrid_kernel_kept_multiply_outside(kept a, kept b, kept mask, struct owned *out);
-uint32_t cbgrid_kernel_kept_vector(kept a, kept x, struct owned *out);
-uint32_t cbgrid_kernel_kept_transpose(kept a, struct owned *out);
-uint32_t cbgrid_kernel_kept_row_sums(kept a, struct owned *out);
-uint32_t cbgrid_kernel_kept_column_sums(kept a, struct owned *out);
-uint32_t cbgrid_kernel_kept_add(kept a, kept b, struct owned *out);
-uint32_t cbgrid_kernel_kept_times(kept a, kept b, struct owned *out);
-uint32_t cbgrid_kernel_kept_prune(kept a, uint32_t test, uint64_t bound, struct owned *out);
-uint32_t cbgrid_kernel_kept_select(kept a, uint32_t region, uint32_t row, uint32_t column, struct owned *out);
-uint32_t cbgrid_kernel_kept_apply(kept a, uint32_t function, uint64_t number, struct owned *out);
-uint32_t cbgrid_kernel_kept_diagonal(kept a, struct owned *out);
-uint32_t cbgrid_kernel_kept_diagonal_matrix(kept a, struct owned *out);
-uint32_t cbgrid_kernel_kept_part(kept a, uint32_t row, uint32_t row_end, uint32_t column, uint32_t column_end,
-                                 struct owned *out);
-uint32_t cbgrid_kernel_kept_extract(kept a, const uint32_t *rows, size_t row_count, const uint32_t *columns,
-                                    size_t column_count, struct owned *out);
-uint32_t cbgrid_kernel_kept_kronecker(kept a, kept b, struct owned *out);
-uint32_t cbgrid_kernel_kept_assign(kept a, uint32_t row, uint32_t column, kept part, struct owned *out);
-uint32_t cbgrid_kernel_kept_exclude(kept a, kept mask, struct owned *out);
-uint32_t cbgrid_kernel_kept_update(kept a, kept b, uint32_t flags, struct owned *out);
-uint32_t cbgrid_kernel_kept_update_masked(kept a, kept b, kept mask, uint32_t flags, struct owned *out);
-uint32_t cbgrid_kernel_kept_multiply_turned(kept a, uint32_t turn_a, kept b, uint32_t turn_b, struct owned *out);
-uint32_t cbgrid_kernel_kept_power(kept a, uint32_t factors, struct owned *out);
-uint32_t cbgrid_kernel_kept_row_degrees(kept a, struct owned *out);
-uint32_t cbgrid_kernel_kept_column_degrees(kept a, struct owned *out);
-uint64_t cbgrid_kernel_kept_total(kept a);
-uint32_t cbgrid_kernel_kept_levels(kept a, uint32_t source, struct owned *out);
-uint32_t cbgrid_kernel_kept_distances(kept a, uint32_t source, struct owned *out);
-uint32_t cbgrid_kernel_kept_levels_from(kept a, const uint32_t *sources, size_t count, struct owned *out);
-uint32_t cbgrid_kernel_kept_distances_from(kept a, const uint32_t *sources, size_t count, struct owned *out);
-uint32_t cbgrid_kernel_kept_levels_given(kept a, kept given, struct owned *out);
-uint32_t cbgrid_kernel_kept_distances_given(kept a, kept given, struct owned *out);
-uint32_t cbgrid_kernel_kept_parents(kept a, uint32_t source, struct owned *out);
-uint32_t cbgrid_kernel_kept_components(kept a, struct owned *out);
-uint32_t cbgrid_kernel_kept_triangles(kept a, uint64_t *out);
-uint32_t cbgrid_kernel_kept_read(uint32_t semiring, const unsigned char *text, size_t len, uint64_t *line,
-                                 struct owned *out);
-uint32_t cbgrid_kernel_kept_text(kept a, struct cbgrid_text *out);
-uint32_t cbgrid_kernel_kept_lists(kept a, struct cbgrid_columns *out);
-void cbgrid_kernel_kept_summary(kept a, struct summary *out);
-uint64_t cbgrid_kernel_kept_value(kept a, uint32_t row, uint32_t column);
-void cbgrid_kernel_release(struct owned a);
+typedef const struct cbgrid_columns *lent;
 
-/* ---- Products in panels. */
-
-uint32_t cbgrid_kernel_kept_ends(kept a, kept b, uint32_t *ends, size_t count);
-uint32_t cbgrid_kernel_kept_panel(kept a, kept b, uint32_t first, uint32_t end, struct owned *out);
-uint32_t cbgrid_kernel_kept_masked_panel(kept a, kept b, kept mask, uint32_t first, uint32_t end, struct owned *out);
-uint32_t cbgrid_kernel_kept_outside_panel(kept a, kept b, kept mask, uint32_t first, uint32_t end, struct owned *out);
-uint32_t cbgrid_kernel_kept_join(struct owned front, struct owned back, struct owned *out);
+/* The calls, as ../declare finds them in crates/cb_ffi. */
+#include "exports.h"
 
 #endif

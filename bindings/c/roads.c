@@ -1,5 +1,5 @@
 /*
- * Kept matrices: a product, distances, levels and components of a small road map.
+ * A product, distances, levels and components of a small road map.
  *
  *     cc roads.c $(pkg-config --cflags --libs cbgrid) -o roads && ./roads
  */
@@ -31,7 +31,7 @@ static int print_value(const char *what, int code, struct cbgrid_matrix *made, u
 
 static int print_ways(const struct cbgrid_matrix *roads, const struct cbgrid_matrix *edges) {
     struct cbgrid_matrix *two = NULL, *far = NULL, *steps = NULL, *islands = NULL;
-    int code = cbgrid_matrix_multiply(roads, roads, &two);
+    int code = cbgrid_matrix_multiply(roads, roads, NULL, &two);
     code = print_value("from 1 to 4 by two roads", code, two, 0, 3);
     if (!code) code = cbgrid_matrix_distances(roads, 0, &far);
     code = print_value("from 1 to 4", code, far, 3, 0);

@@ -54,7 +54,7 @@ struct dense dense_relaxed(const struct dense *graph, const struct dense *given,
 struct dense dense_distances(const struct dense *graph, uint32_t source, int edges_count_one);
 size_t dense_text(uint32_t semiring, const struct dense *a, char *text);
 
-/* ---- operands.c: random matrices, passed in each form and kept in each way; and looks at results. */
+/* ---- operands.c: random matrices, made in each way; and looks at results. */
 extern uint64_t random_state;
 uint32_t draw(uint32_t below);
 uint32_t draw_to(uint32_t least, uint32_t most);
@@ -89,6 +89,7 @@ void test_kept_codes(void);
 void test_limits(void);
 void test_columns(void);
 void test_operations(int is_few);
+void test_products(int is_few);
 void test_graphs(int is_few);
 void test_selections(int is_few);
 void test_updates(int is_few);

@@ -58,7 +58,7 @@ static void test_long_columns(void) {
     static uint32_t all[COUNT], back[COUNT], zero[] = {0};
     uint64_t total = 0;
     for (uint32_t n = 0; n < COUNT; n++) all[n] = n, back[n] = COUNT - 1 - n;
-    COLUMN(cbgrid_matrix_vector(d, x, &made), square_in_column);
+    COLUMN(cbgrid_matrix_multiply(d, x, NULL, &made), square_in_column);
     COLUMN(cbgrid_matrix_diagonal(d, &made), in_column);
     COLUMN(cbgrid_matrix_row_sums(d, &made), in_column);
     COLUMN(cbgrid_matrix_transpose(row, &made), in_column);
@@ -75,9 +75,11 @@ static void test_long_columns(void) {
     COLUMN(cbgrid_matrix_exclude(x, none, &made), in_column);
     COLUMN(cbgrid_matrix_update(x, x, x, CBGRID_ACCUMULATE, &made), twice_in_column);
     COLUMN(cbgrid_matrix_update(x, x, NULL, CBGRID_ACCUMULATE, &made), twice_in_column);
-    COLUMN(cbgrid_matrix_multiply_outside(d, x, none, &made), square_in_column);
-    COLUMN(cbgrid_matrix_multiply_masked(d, x, x, &made), square_in_column);
-    COLUMN(cbgrid_matrix_multiply_turned(d, 1, row, 1, &made), square_in_column);
+    COLUMN(cbgrid_matrix_multiply(d, x, &(struct cbgrid_how){.mask = none, .complement = 1}, &made), square_in_column);
+    COLUMN(cbgrid_matrix_multiply(d, x, &(struct cbgrid_how){.mask = x}, &made), square_in_column);
+    COLUMN(cbgrid_matrix_multiply(d, row, &(struct cbgrid_how){.transpose_a = 1, .transpose_b = 1}, &made), square_in_column);
+    COLUMN(cbgrid_matrix_multiply(d, row, &(struct cbgrid_how){.mask = x, .transpose_b = 1, .threads = 3}, &made),
+           square_in_column);
     COLUMN(cbgrid_matrix_row_degrees(d, &made), one_in_column);
     COLUMN(cbgrid_matrix_column_degrees(d, &made), one_in_column);
     MAKES(cbgrid_matrix_column_sums(d, &made), 0, 1, COUNT, in_row, COUNT);
@@ -120,38 +122,20 @@ static void test_long_searches(void) {
     EXPECT(live == 0);
 }
 
-/* The calls on lists whose operands, or results, are columns. */
+/* Lists of as many columns, and of as many rows, there and back. */
 static void test_long_lists(void) {
     struct cbgrid_matrix *made = NULL, *d = kept_of(0, COUNT, COUNT, on_diagonal, COUNT);
     struct cbgrid_matrix *x = kept_of(0, COUNT, 1, in_column, COUNT);
-    struct cbgrid_matrix *steps = kept_of(CBGRID_OR_AND, COUNT, COUNT, step, COUNT - 1);
-    struct cbgrid_matrix *roads = kept_of(CBGRID_MIN_PLUS, COUNT, COUNT, road, COUNT - 1);
-    struct cbgrid_columns of_d, of_x, of_steps, of_roads, out;
+    struct cbgrid_columns of_d, of_x;
     EXPECT(!cbgrid_matrix_columns(d, &of_d) && !cbgrid_matrix_columns(x, &of_x));
-    EXPECT(!cbgrid_matrix_columns(steps, &of_steps) && !cbgrid_matrix_columns(roads, &of_roads));
-    EXPECT(cbgrid_vector(0, 1, &of_d, &of_x, &out) == CBGRID_OK);
-    COLUMN(cbgrid_matrix_of_columns(0, &out, &made), square_in_column);
-    cbgrid_free_columns(&out);
-    EXPECT(cbgrid_row_sums(0, 1, &of_d, &out) == CBGRID_OK);
-    COLUMN(cbgrid_matrix_of_columns(0, &out, &made), in_column);
-    cbgrid_free_columns(&out);
-    EXPECT(cbgrid_column_sums(0, 1, &of_d, &out) == CBGRID_OK);
-    MAKES(cbgrid_matrix_of_columns(0, &out, &made), 0, 1, COUNT, in_row, COUNT);
-    cbgrid_free_columns(&out);
-    EXPECT(cbgrid_levels(1, &of_steps, 0, &out) == CBGRID_OK);
-    FOUND(cbgrid_matrix_of_columns(CBGRID_MIN_PLUS, &out, &made), level, COUNT);
-    cbgrid_free_columns(&out);
-    EXPECT(cbgrid_distances(1, &of_roads, 0, &out) == CBGRID_OK);
-    FOUND(cbgrid_matrix_of_columns(CBGRID_MIN_PLUS, &out, &made), distance, COUNT);
-    cbgrid_free_columns(&out);
+    MAKES(cbgrid_matrix_of_columns(0, &of_d, &made), 0, COUNT, COUNT, on_diagonal, COUNT);
+    MAKES(cbgrid_matrix_of_rows(0, &of_d, &made), 0, COUNT, COUNT, on_diagonal, COUNT);
+    COLUMN(cbgrid_matrix_of_columns(0, &of_x, &made), in_column);
+    MAKES(cbgrid_matrix_of_rows(0, &of_x, &made), 0, 1, COUNT, in_row, COUNT);
     cbgrid_free_columns(&of_d);
     cbgrid_free_columns(&of_x);
-    cbgrid_free_columns(&of_steps);
-    cbgrid_free_columns(&of_roads);
     cbgrid_matrix_free(d);
     cbgrid_matrix_free(x);
-    cbgrid_matrix_free(steps);
-    cbgrid_matrix_free(roads);
     EXPECT(live == 0);
 }
 

@@ -1,4 +1,4 @@
-/* The codes of calls on kept matrices, null pointers, and the messages of codes. */
+/* The codes of calls on matrices, null pointers, and the messages of codes. */
 #include "check.h"
 
 /* A kept matrix of 2 x 3, and one over or-and. */
@@ -21,16 +21,6 @@ static void test_codes_of_kept(void) {
     EXPECT(cbgrid_matrix_of_rows(SEMIRINGS, &lists, &out) == CBGRID_SEMIRING);
     EXPECT(cbgrid_matrix_add(a, b, &out) == CBGRID_MIXED);
     EXPECT(cbgrid_matrix_times(b, a, &out) == CBGRID_MIXED);
-    EXPECT(cbgrid_matrix_multiply(a, b, &out) == CBGRID_MIXED);
-    EXPECT(cbgrid_matrix_multiply_masked(a, a, b, &out) == CBGRID_MIXED);
-    EXPECT(cbgrid_matrix_multiply_masked(a, b, a, &out) == CBGRID_MIXED);
-    EXPECT(cbgrid_matrix_multiply_outside(a, a, b, &out) == CBGRID_MIXED);
-    EXPECT(cbgrid_matrix_multiply_outside(a, b, a, &out) == CBGRID_MIXED);
-    EXPECT(cbgrid_matrix_multiply_outside(NULL, a, a, &out) == CBGRID_NULL_POINTER);
-    EXPECT(cbgrid_matrix_multiply_outside(a, NULL, a, &out) == CBGRID_NULL_POINTER);
-    EXPECT(cbgrid_matrix_multiply_outside(a, a, NULL, &out) == CBGRID_NULL_POINTER);
-    EXPECT(cbgrid_matrix_multiply_outside(a, a, a, NULL) == CBGRID_NULL_POINTER);
-    EXPECT(cbgrid_matrix_vector(b, a, &out) == CBGRID_MIXED);
     EXPECT(cbgrid_matrix_levels(a, 9, &out) == CBGRID_MIXED);
     EXPECT(cbgrid_matrix_distances(b, 9, &out) == CBGRID_MIXED);
     EXPECT(cbgrid_matrix_levels(b, 9, &out) == CBGRID_NOT_SQUARE);
@@ -41,14 +31,12 @@ static void test_codes_of_kept(void) {
     EXPECT(cbgrid_matrix_triangles(a, &value) == CBGRID_MIXED && value == 77);
     EXPECT(cbgrid_matrix_triangles(b, &value) == CBGRID_NOT_SQUARE && value == 77);
     EXPECT(cbgrid_matrix_triangles(b, NULL) == CBGRID_NULL_POINTER);
-    EXPECT(cbgrid_matrix_multiply(a, a, &out) == CBGRID_SHAPES);
     EXPECT(cbgrid_matrix_prune(a, 3, 0, &out) == CBGRID_TEST);
     EXPECT(cbgrid_matrix_read(0, "", 0, &line, &out) == CBGRID_FORMAT && line == 1);
     EXPECT(cbgrid_matrix_value(a, 2, 0, &value) == CBGRID_PLACE && value == 77);
-    EXPECT(cbgrid_matrix_multiply(a, NULL, &out) == CBGRID_NULL_POINTER);
-    EXPECT(cbgrid_matrix_multiply(a, a, NULL) == CBGRID_NULL_POINTER);
-    EXPECT(cbgrid_matrix_transpose(NULL, &out) == CBGRID_NULL_POINTER);
     EXPECT(cbgrid_matrix_columns(NULL, &lists) == CBGRID_NULL_POINTER);
+    EXPECT(cbgrid_matrix_columns(a, NULL) == CBGRID_NULL_POINTER);
+    EXPECT(cbgrid_matrix_rows(NULL, &lists) == CBGRID_NULL_POINTER);
     EXPECT(cbgrid_matrix_triples(a, NULL) == CBGRID_NULL_POINTER);
     EXPECT(cbgrid_matrix_nrows(NULL) == 0 && cbgrid_matrix_entries(NULL) == 0);
     EXPECT(out == was);
@@ -73,13 +61,39 @@ static void test_sources(void) {
     EXPECT(live == 0);
 }
 
+/* Each pointer null in calls that are right otherwise. */
+static void test_null_matrices(void) {
+    static const struct cbgrid_triple one = {0, 0, 1};
+    struct cbgrid_matrix *a, *out = NULL;
+    struct cbgrid_text text = {NULL, 5};
+    EXPECT(cbgrid_matrix_of_triples(CBGRID_OR_AND, 1, 1, &one, 1, &a) == CBGRID_OK);
+    int codes[] = {
+        cbgrid_matrix_transpose(NULL, &out),      cbgrid_matrix_transpose(a, NULL),
+        cbgrid_matrix_row_sums(NULL, &out),       cbgrid_matrix_row_sums(a, NULL),
+        cbgrid_matrix_column_sums(NULL, &out),    cbgrid_matrix_column_sums(a, NULL),
+        cbgrid_matrix_add(NULL, a, &out),         cbgrid_matrix_add(a, NULL, &out),
+        cbgrid_matrix_add(a, a, NULL),            cbgrid_matrix_times(NULL, a, &out),
+        cbgrid_matrix_times(a, NULL, &out),       cbgrid_matrix_times(a, a, NULL),
+        cbgrid_matrix_prune(NULL, 0, 0, &out),    cbgrid_matrix_prune(a, 0, 0, NULL),
+        cbgrid_matrix_levels(NULL, 0, &out),      cbgrid_matrix_levels(a, 0, NULL),
+        cbgrid_matrix_distances(NULL, 0, &out),   cbgrid_matrix_distances(a, 0, NULL),
+        cbgrid_matrix_parents(NULL, 0, &out),     cbgrid_matrix_parents(a, 0, NULL),
+        cbgrid_matrix_components(NULL, &out),     cbgrid_matrix_components(a, NULL),
+        cbgrid_matrix_text(NULL, &text),          cbgrid_matrix_text(a, NULL),
+    };
+    for (size_t n = 0; n < sizeof codes / sizeof *codes; n++) EXPECT(codes[n] == CBGRID_NULL_POINTER);
+    EXPECT(!out && text.len == 5);
+    cbgrid_matrix_free(a);
+    EXPECT(live == 0);
+}
+
 static void test_messages(void) {
-    for (int code = 0; code <= CBGRID_MIXED; code++) {
+    for (int code = 0; code <= CBGRID_NULL_POINTER; code++) {
         EXPECT(strlen(cbgrid_message(code)) > 3 && strcmp(cbgrid_message(code), "no such code"));
         for (int other = 0; other < code; other++) EXPECT(strcmp(cbgrid_message(code), cbgrid_message(other)));
     }
     EXPECT(!strcmp(cbgrid_message(-1), "no such code"));
-    EXPECT(!strcmp(cbgrid_message(CBGRID_MIXED + 1), "no such code"));
+    EXPECT(!strcmp(cbgrid_message(CBGRID_NULL_POINTER + 1), "no such code"));
     EXPECT(!strcmp(cbgrid_message(CBGRID_MEMORY), "out of memory"));
     EXPECT(!strcmp(cbgrid_message(CBGRID_SHAPES), "shapes don't agree"));
 }
@@ -87,5 +101,6 @@ static void test_messages(void) {
 void test_kept_codes(void) {
     test_messages();
     test_codes_of_kept();
+    test_null_matrices();
     test_sources();
 }

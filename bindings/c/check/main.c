@@ -1,5 +1,5 @@
 /*
- * Tests of cbgrid for C: results against dense matrices, in every semiring, form and grid; each code; null pointers;
+ * Tests of cbgrid for C: results against dense matrices, in every semiring and form of lists; each code; null pointers;
  * refused memory and threads; and nothing lost. With --few it makes few rounds, for valgrind. Compiled with LARGE it makes
  * each call once on matrices of thousands of entries.
  */
@@ -16,6 +16,7 @@ int main(int argc, char **argv) {
     test_threads(is_few);
 #endif
     test_operations(is_few);
+    test_products(is_few);
     test_graphs(is_few);
     test_selections(is_few);
     test_updates(is_few);

@@ -9,7 +9,7 @@ static struct cbgrid_matrix *shared;
 static void *multiply_often(void *count) {
     for (int n = 0; n < 200; n++) {
         struct cbgrid_matrix *made;
-        if (cbgrid_matrix_multiply(shared, shared, &made)) continue;
+        if (cbgrid_matrix_multiply(shared, shared, NULL, &made)) continue;
         *(uint64_t *)count += cbgrid_matrix_entries(made);
         cbgrid_matrix_free(made);
     }
@@ -44,16 +44,15 @@ struct operands {
     struct cbgrid_matrix *a, *b, *mask;
 };
 
-static int by_one(int places, const struct operands *of, struct cbgrid_matrix **out) {
-    if (places == EVERYWHERE) return cbgrid_matrix_multiply(of->a, of->b, out);
-    if (places == UNDER_MASK) return cbgrid_matrix_multiply_masked(of->a, of->b, of->mask, out);
-    return cbgrid_matrix_multiply_outside(of->a, of->b, of->mask, out);
+static int by_threads(int places, const struct operands *of, uint32_t threads, struct cbgrid_matrix **out) {
+    struct cbgrid_how how = {.threads = threads};
+    if (places != EVERYWHERE) how.mask = of->mask;
+    how.complement = places == OUTSIDE_MASK;
+    return cbgrid_matrix_multiply(of->a, of->b, &how, out);
 }
 
-static int by_threads(int places, const struct operands *of, uint32_t threads, struct cbgrid_matrix **out) {
-    if (places == EVERYWHERE) return cbgrid_matrix_multiply_threads(of->a, of->b, threads, out);
-    if (places == UNDER_MASK) return cbgrid_matrix_multiply_masked_threads(of->a, of->b, of->mask, threads, out);
-    return cbgrid_matrix_multiply_outside_threads(of->a, of->b, of->mask, threads, out);
+static int by_one(int places, const struct operands *of, struct cbgrid_matrix **out) {
+    return by_threads(places, of, 0, out);
 }
 
 static void free_operands(struct operands *of) {
@@ -89,7 +88,7 @@ static struct operands random_operands(uint32_t semiring, const struct factors *
     };
 }
 
-static void test_products(int is_few) {
+static void test_shared_products(int is_few) {
     for (uint32_t semiring = 0; semiring < SEMIRINGS; semiring += is_few ? SEMIRINGS : 1) {
         for (size_t n = 0; n < sizeof factors / sizeof *factors; n++) {
             if (is_few && factors[n].nrows >= 100) continue;
@@ -144,7 +143,6 @@ static void test_threads_codes(void) {
         {{a, b, b}, CBGRID_OK, CBGRID_SHAPES},
         {{NULL, other, b}, CBGRID_NULL_POINTER, CBGRID_NULL_POINTER},
         {{a, NULL, b}, CBGRID_NULL_POINTER, CBGRID_NULL_POINTER},
-        {{a, other, NULL}, CBGRID_MIXED, CBGRID_NULL_POINTER},
     };
     for (size_t n = 0; n < sizeof rows / sizeof *rows; n++) {
         for (uint32_t threads = 0; threads < 4; threads++) {
@@ -167,7 +165,7 @@ static void test_threads_codes(void) {
 
 void test_threads(int is_few) {
     test_shared_matrix();
-    test_products(is_few);
+    test_shared_products(is_few);
     for (int places = 0; places < PLACES; places++) test_threads_refused_memory(places, is_few ? 9 : 1);
     test_threads_codes();
 }

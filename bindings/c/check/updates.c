@@ -1,11 +1,11 @@
-/* Kept matrices: updates, products outside a mask and of transposes, powers and degrees. */
+/* Updates, powers and degrees. */
 #include "check.h"
 
-enum building { UPDATE, UPDATE_ALL, OUTSIDE, TURNED_PRODUCT, POWER, ROW_DEGREES, COLUMN_DEGREES, BUILDINGS };
+enum building { UPDATE, UPDATE_ALL, POWER, ROW_DEGREES, COLUMN_DEGREES, BUILDINGS };
 
 struct build {
     enum building building;
-    uint32_t semiring, number; /* the flags of an update; which factors are transposed, 1 and 2; how many factors */
+    uint32_t semiring, number; /* the flags of an update; how many factors */
     struct dense a, b, mask, want;
 };
 
@@ -41,22 +41,10 @@ static struct dense dense_degrees(const struct build *job) {
 }
 
 static struct dense wanted_build(const struct build *job) {
-    struct dense left, right;
+    struct dense left;
     switch (job->building) {
         case UPDATE:
         case UPDATE_ALL: return dense_update(job);
-        case OUTSIDE:
-            left = dense_product(job->semiring, &job->a, &job->b);
-            for (uint32_t i = 0; i < left.nrows; i++) {
-                for (uint32_t j = 0; j < left.ncols; j++) {
-                    if (job->mask.at[i][j] != zero_of(job->semiring)) left.at[i][j] = zero_of(job->semiring);
-                }
-            }
-            return left;
-        case TURNED_PRODUCT:
-            left = job->number & 1 ? turned(&job->a) : job->a;
-            right = job->number & 2 ? turned(&job->b) : job->b;
-            return dense_product(job->semiring, &left, &right);
         case POWER:
             left = job->a;
             for (uint32_t n = 1; n < job->number; n++) left = dense_product(job->semiring, &left, &job->a);
@@ -66,17 +54,12 @@ static struct dense wanted_build(const struct build *job) {
 }
 
 static void make_build(struct build *job, enum building building, uint32_t semiring) {
-    uint32_t m = draw_to(0, SIDE), k = building == POWER ? m : draw_to(0, SIDE), n = draw_to(0, SIDE);
+    uint32_t m = draw_to(0, SIDE), k = building == POWER ? m : draw_to(0, SIDE);
     job->building = building, job->semiring = semiring;
-    job->number = building == TURNED_PRODUCT ? draw(4) : building == POWER ? 1 + draw(5) : draw(8);
+    job->number = building == POWER ? 1 + draw(5) : draw(8);
     job->a = random_dense(semiring, m, k);
     job->b = random_dense(semiring, m, k);
     job->mask = random_dense(semiring, m, k);
-    if (building == OUTSIDE) job->b = random_dense(semiring, k, n), job->mask = random_dense(semiring, m, n);
-    if (building == TURNED_PRODUCT) {
-        uint32_t inner = job->number & 1 ? m : k;
-        job->b = random_dense(semiring, job->number & 2 ? n : inner, job->number & 2 ? inner : n);
-    }
     job->want = wanted_build(job);
 }
 
@@ -86,8 +69,6 @@ static int call_build(const struct build *job, const struct cbgrid_matrix *a, co
     switch (job->building) {
         case UPDATE: return cbgrid_matrix_update(a, b, mask, number, out);
         case UPDATE_ALL: return cbgrid_matrix_update(a, b, NULL, number, out);
-        case OUTSIDE: return cbgrid_matrix_multiply_outside(a, b, mask, out);
-        case TURNED_PRODUCT: return cbgrid_matrix_multiply_turned(a, (int)(number & 1), b, (int)(number & 2), out);
         case POWER: return cbgrid_matrix_power(a, number, out);
         case ROW_DEGREES: return cbgrid_matrix_row_degrees(a, out);
         default: return cbgrid_matrix_column_degrees(a, out);
@@ -157,22 +138,11 @@ static void test_build_codes(void) {
     EXPECT(cbgrid_matrix_update(a, c, a, 0, &out) == CBGRID_SHAPES);
     EXPECT(cbgrid_matrix_update(a, a, c, 0, &out) == CBGRID_SHAPES);
     EXPECT(cbgrid_matrix_update(a, c, NULL, 7, &out) == CBGRID_SHAPES);
-    EXPECT(cbgrid_matrix_multiply_turned(a, 0, b, 0, &out) == CBGRID_MIXED);
-    EXPECT(cbgrid_matrix_multiply_turned(a, 0, a, 0, &out) == CBGRID_SHAPES);
-    EXPECT(cbgrid_matrix_multiply_turned(a, 1, c, 0, &out) == CBGRID_SHAPES);
-    EXPECT(cbgrid_matrix_multiply_turned(a, 0, c, -1, &out) == CBGRID_SHAPES);
-    EXPECT(cbgrid_matrix_multiply_turned(a, 1, a, 1, &out) == CBGRID_SHAPES);
-    EXPECT(cbgrid_matrix_multiply_outside(a, a, c, &out) == CBGRID_SHAPES);
-    EXPECT(cbgrid_matrix_multiply_outside(a, c, a, &out) == CBGRID_SHAPES);
-    EXPECT(cbgrid_matrix_multiply_outside(c, a, a, &out) == CBGRID_SHAPES);
     EXPECT(cbgrid_matrix_power(a, 0, &out) == CBGRID_TEST);
     EXPECT(cbgrid_matrix_power(a, 1, &out) == CBGRID_NOT_SQUARE);
     EXPECT(cbgrid_matrix_update(NULL, a, a, 0, &out) == CBGRID_NULL_POINTER);
     EXPECT(cbgrid_matrix_update(a, NULL, a, 8, &out) == CBGRID_NULL_POINTER);
     EXPECT(cbgrid_matrix_update(a, b, c, 8, NULL) == CBGRID_NULL_POINTER);
-    EXPECT(cbgrid_matrix_multiply_turned(NULL, 0, a, 0, &out) == CBGRID_NULL_POINTER);
-    EXPECT(cbgrid_matrix_multiply_turned(a, 0, NULL, 0, &out) == CBGRID_NULL_POINTER);
-    EXPECT(cbgrid_matrix_multiply_turned(a, 0, b, 0, NULL) == CBGRID_NULL_POINTER);
     EXPECT(cbgrid_matrix_power(NULL, 0, &out) == CBGRID_NULL_POINTER);
     EXPECT(cbgrid_matrix_power(a, 0, NULL) == CBGRID_NULL_POINTER);
     EXPECT(cbgrid_matrix_row_degrees(NULL, &out) == CBGRID_NULL_POINTER);
@@ -190,27 +160,18 @@ static void test_build_codes(void) {
 /* A matrix whose sides are the limit costs what its one entry costs. */
 static void test_huge_builds(void) {
     static const struct cbgrid_triple last = {CBGRID_LIMIT - 1, CBGRID_LIMIT - 1, 3};
-    struct cbgrid_matrix *huge, *made = NULL, *square;
+    struct cbgrid_matrix *huge, *made = NULL;
     uint64_t value;
     EXPECT(cbgrid_matrix_of_triples(0, CBGRID_LIMIT, CBGRID_LIMIT, &last, 1, &huge) == CBGRID_OK);
     EXPECT(cbgrid_matrix_power(huge, 0, &made) == CBGRID_TEST && !made);
     EXPECT(cbgrid_matrix_update(huge, huge, huge, CBGRID_ACCUMULATE, &made) == CBGRID_OK);
     EXPECT(cbgrid_matrix_value(made, last.row, last.column, &value) == CBGRID_OK && value == 6);
     cbgrid_matrix_free(made);
-    EXPECT(cbgrid_matrix_multiply_turned(huge, 1, huge, 1, &made) == CBGRID_OK);
-    EXPECT(cbgrid_matrix_value(made, last.row, last.column, &value) == CBGRID_OK && value == 9);
-    cbgrid_matrix_free(made);
     EXPECT(cbgrid_matrix_power(huge, 4, &made) == CBGRID_OK);
     EXPECT(cbgrid_matrix_value(made, last.row, last.column, &value) == CBGRID_OK && value == 81);
     cbgrid_matrix_free(made);
     EXPECT(cbgrid_matrix_row_degrees(huge, &made) == CBGRID_OK && cbgrid_matrix_nrows(made) == CBGRID_LIMIT);
     EXPECT(cbgrid_matrix_value(made, last.row, 0, &value) == CBGRID_OK && value == 1);
-    cbgrid_matrix_free(made);
-    EXPECT(cbgrid_matrix_multiply_outside(huge, huge, huge, &made) == CBGRID_OK && cbgrid_matrix_entries(made) == 0);
-    EXPECT(cbgrid_matrix_nrows(made) == CBGRID_LIMIT && cbgrid_matrix_ncols(made) == CBGRID_LIMIT);
-    EXPECT(cbgrid_matrix_multiply_outside(huge, huge, made, &square) == CBGRID_OK);
-    EXPECT(cbgrid_matrix_value(square, last.row, last.column, &value) == CBGRID_OK && value == 9);
-    cbgrid_matrix_free(square);
     cbgrid_matrix_free(made);
     cbgrid_matrix_free(huge);
     EXPECT(live == 0);

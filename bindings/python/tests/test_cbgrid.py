@@ -139,7 +139,7 @@ class AgainstScipy(Test):
         for turn in range(ROUNDS):
             m, k, n = random_shape(self.rng)
             a, b = random_pair(self.rng, m, k, n)
-            self.assert_same(cbgrid.multiply(a, b, grid=1 + turn % 6), sp.csc_matrix(a) @ sp.csc_matrix(b), a)
+            self.assert_same(cbgrid.multiply(a, b), sp.csc_matrix(a) @ sp.csc_matrix(b), a)
 
     def test_masks(self):
         for turn in range(ROUNDS):
@@ -148,22 +148,22 @@ class AgainstScipy(Test):
             mask = random_matrix(self.rng, m, n, 40, -1, 2, kind=CLASSES[turn % 6])
             where = (sp.csc_matrix(mask) != 0).astype(a.dtype)
             want = (sp.csc_matrix(a) @ sp.csc_matrix(b)).multiply(where)
-            self.assert_same(cbgrid.multiply(a, b, mask=mask, grid=1 + turn % 6), want, a)
+            self.assert_same(cbgrid.multiply(a, b, mask=mask), want, a)
 
     def test_sums_and_placewise_products(self):
         for turn in range(ROUNDS):
             m, n, _ = random_shape(self.rng)
             a, _ = random_pair(self.rng, m, n, n)
             b = random_matrix(self.rng, m, n, 30, 0, 9, a.dtype, CLASSES[turn % 6])
-            self.assert_same(cbgrid.add(a, b, grid=1 + turn % 6), sp.csc_matrix(a) + sp.csc_matrix(b), a)
+            self.assert_same(cbgrid.add(a, b), sp.csc_matrix(a) + sp.csc_matrix(b), a)
             want = sp.csc_matrix(a).multiply(sp.csc_matrix(b))
-            self.assert_same(cbgrid.times(a, b, grid=1 + turn % 6), want, a)
+            self.assert_same(cbgrid.times(a, b), want, a)
 
     def test_transposes(self):
         for turn in range(ROUNDS):
             m, k, _ = random_shape(self.rng)
             a, _ = random_pair(self.rng, m, k, k)
-            self.assert_same(cbgrid.transpose(a, grid=1 + turn % 6), sp.csc_matrix(a).T, a)
+            self.assert_same(cbgrid.transpose(a), sp.csc_matrix(a).T, a)
 
     def test_reductions(self):
         for turn in range(ROUNDS):
@@ -171,8 +171,8 @@ class AgainstScipy(Test):
             a, _ = random_pair(self.rng, m, k, k)
             whole = a.toarray()
             rows, columns = whole.sum(axis=1, dtype=a.dtype), whole.sum(axis=0, dtype=a.dtype)
-            self.assert_same(cbgrid.reduce(a, grid=1 + turn % 6), sp.csc_matrix(rows.reshape(m, 1)), a)
-            self.assert_same(cbgrid.reduce(a, "columns", grid=1 + turn % 6), sp.csc_matrix(columns.reshape(1, k)), a)
+            self.assert_same(cbgrid.reduce(a), sp.csc_matrix(rows.reshape(m, 1)), a)
+            self.assert_same(cbgrid.reduce(a, "columns"), sp.csc_matrix(columns.reshape(1, k)), a)
         self.assertRaises(ValueError, cbgrid.reduce, a, "diagonals")
 
     def test_vectors(self):
@@ -180,9 +180,9 @@ class AgainstScipy(Test):
             m, k, _ = random_shape(self.rng)
             a, x = random_pair(self.rng, m, k, 1)
             want = sp.csc_matrix(a) @ sp.csc_matrix(x)
-            self.assert_same(cbgrid.spmv(a, x, grid=1 + turn % 6), want, x)
+            self.assert_same(cbgrid.spmv(a, x), want, x)
             array = x.toarray()[:, 0]
-            got = cbgrid.spmv(a, array, grid=1 + turn % 6)
+            got = cbgrid.spmv(a, array)
             self.assertEqual(got.dtype, a.dtype)
             self.assertTrue(np.array_equal(got, want.toarray()[:, 0]))
 
@@ -192,7 +192,7 @@ class AgainstScipy(Test):
             graph = random_matrix(self.rng, n, n, int(self.rng.integers(0, 3 * n)), 1, 9, kind=CLASSES[turn % 6])
             source = int(self.rng.integers(n))
             hops = csgraph.dijkstra(sp.csr_matrix(graph).astype(float), unweighted=True, indices=source)
-            vertices, levels = cbgrid.bfs(graph, source, grid=1 + turn % 6)
+            vertices, levels = cbgrid.bfs(graph, source)
             self.assertTrue(np.array_equal(vertices, np.flatnonzero(np.isfinite(hops))))
             self.assertTrue(np.array_equal(levels, hops[vertices]))
             reached = csgraph.breadth_first_order(sp.csr_matrix(graph), source, return_predecessors=False)
@@ -205,7 +205,7 @@ class AgainstScipy(Test):
             graph = random_matrix(self.rng, n, n, count, 1, 50, dtype, CLASSES[turn % 6])
             source = int(self.rng.integers(n))
             want = csgraph.dijkstra(sp.csr_matrix(graph).astype(float), indices=source)
-            vertices, distances = cbgrid.relax(graph, source, grid=1 + turn % 6)
+            vertices, distances = cbgrid.relax(graph, source)
             self.assertEqual(distances.dtype, dtype)
             self.assertTrue(np.array_equal(vertices, np.flatnonzero(np.isfinite(want))))
             self.assertTrue(np.array_equal(distances, want[vertices]))
@@ -226,22 +226,21 @@ class AgainstDenseSums(Test):
             for it in a, b, c:
                 it.data[:] = self.rng.integers(0, high, len(it.data), dtype=np.uint64)
             left, right, other = dense(a, zero), dense(b, zero), dense(c, zero)
-            grid = 1 + turn % 6
-            self.assert_dense(cbgrid.multiply(a, b, semiring, grid=grid), dense_product(left, right, semiring), zero, a)
-            self.assert_dense(cbgrid.add(a, c, semiring, grid), np.vectorize(plus, [object])(left, other), zero, a)
-            self.assert_dense(cbgrid.times(a, c, semiring, grid), np.vectorize(product, [object])(left, other), zero, a)
-            self.assert_dense(cbgrid.transpose(a, semiring, grid), left.T, zero, a)
+            self.assert_dense(cbgrid.multiply(a, b, semiring), dense_product(left, right, semiring), zero, a)
+            self.assert_dense(cbgrid.add(a, c, semiring), np.vectorize(plus, [object])(left, other), zero, a)
+            self.assert_dense(cbgrid.times(a, c, semiring), np.vectorize(product, [object])(left, other), zero, a)
+            self.assert_dense(cbgrid.transpose(a, semiring), left.T, zero, a)
             rows = np.array([[reduce(plus, row, zero)] for row in left.tolist()], object)
             columns = np.array([[reduce(plus, column, zero) for column in left.T.tolist()]], object)
-            self.assert_dense(cbgrid.reduce(a, "rows", semiring, grid), rows, zero, a)
-            self.assert_dense(cbgrid.reduce(a, "columns", semiring, grid), columns, zero, a)
+            self.assert_dense(cbgrid.reduce(a, "rows", semiring), rows, zero, a)
+            self.assert_dense(cbgrid.reduce(a, "columns", semiring), columns, zero, a)
             x = dense(b, zero)[:, 0]
-            got = cbgrid.spmv(a, x.astype(np.uint64), semiring, grid)
+            got = cbgrid.spmv(a, x.astype(np.uint64), semiring)
             self.assertTrue((got == dense_product(left, right[:, :1], semiring)[:, 0].astype(np.uint64)).all())
             bound = int(self.rng.integers(0, 5))
             for test, drops in ("below", left < bound), ("above", left > bound), ("equal", left == bound):
                 want = np.where(drops.astype(bool), zero, left)
-                self.assert_dense(cbgrid.prune(a, test, bound, semiring, grid), want, zero, a)
+                self.assert_dense(cbgrid.prune(a, test, bound, semiring), want, zero, a)
 
     def test_texts(self):
         for turn in range(200):
@@ -272,15 +271,14 @@ class Lists(Test):
     def test_sides_at_the_limit(self):
         last = LIMIT - 1
         a = sp.coo_matrix((np.array([3, 5]), ([last, 0], [last, 7])), shape=(LIMIT, LIMIT))
-        for grid in range(1, 7):
-            square = cbgrid.multiply(a, a, grid=grid)
-            self.assertEqual((square.row.tolist(), square.col.tolist(), square.data.tolist()), ([last], [last], [9]))
-            turned = cbgrid.transpose(a, grid=grid)
-            self.assertEqual((turned.row.tolist(), turned.col.tolist()), ([7, last], [0, last]))
-            sums = cbgrid.reduce(a, grid=grid)
-            self.assertEqual((sums.row.tolist(), sums.data.tolist(), sums.shape), ([0, last], [5, 3], (LIMIT, 1)))
-            sums = cbgrid.reduce(a, "columns", grid=grid)
-            self.assertEqual((sums.col.tolist(), sums.data.tolist(), sums.shape), ([7, last], [5, 3], (1, LIMIT)))
+        square = cbgrid.multiply(a, a)
+        self.assertEqual((square.row.tolist(), square.col.tolist(), square.data.tolist()), ([last], [last], [9]))
+        turned = cbgrid.transpose(a)
+        self.assertEqual((turned.row.tolist(), turned.col.tolist()), ([7, last], [0, last]))
+        sums = cbgrid.reduce(a)
+        self.assertEqual((sums.row.tolist(), sums.data.tolist(), sums.shape), ([0, last], [5, 3], (LIMIT, 1)))
+        sums = cbgrid.reduce(a, "columns")
+        self.assertEqual((sums.col.tolist(), sums.data.tolist(), sums.shape), ([7, last], [5, 3], (1, LIMIT)))
         self.assertEqual([it.tolist() for it in cbgrid.bfs(a, 0)], [[0, 7], [0, 1]])
         self.assertEqual([it.tolist() for it in cbgrid.relax(a, last)], [[last], [0]])
         self.assertEqual(cbgrid.read(cbgrid.text(a), format="coo").col.tolist(), [7, last])
@@ -343,7 +341,7 @@ class Lists(Test):
             from cbgrid import _lists
 
             matrix = kind(a)
-            lent = _lists.lend(matrix, 0, kind is sp.csr_matrix, False)
+            lent = _lists.lend(matrix, kind is sp.csr_matrix, False)
             for address, array in zip((lent.starts32, lent.rows, lent.values), (matrix.indptr, matrix.indices, matrix.data)):
                 self.assertEqual(address, array.ctypes.data)
 
@@ -374,7 +372,7 @@ class Lists(Test):
         for kind in CLASSES:
             a = random_matrix(self.rng, 20, 20, 80, kind=kind)
             want = (sp.csc_matrix(a) @ sp.csc_matrix(a)).multiply((sp.csc_matrix(a) != 0).astype(np.int64))
-            self.assert_same(cbgrid.multiply(a, a, mask=a, grid=3), want, a)
+            self.assert_same(cbgrid.multiply(a, a, mask=a), want, a)
 
     def test_threads(self):
         a = random_matrix(self.rng, 400, 400, 4000)
@@ -383,7 +381,7 @@ class Lists(Test):
         def work(turn):
             try:
                 for _ in range(10):
-                    self.assert_same(cbgrid.multiply(a, a, grid=1 + turn % 3), want.copy(), a)
+                    self.assert_same(cbgrid.multiply(a, a), want.copy(), a)
                     self.assert_same(cbgrid.transpose(a), a.T, a)
             except BaseException as fault:
                 failed.append(fault)
@@ -590,13 +588,10 @@ class Refused(Test):
             for source in -1, 4, 2**31, 2**32, 2**70:
                 self.assert_refused(12, cbgrid.bfs, kind(square), source)
                 self.assert_refused(12, cbgrid.relax, abs(kind(square)), source)
-        for grid in 0, 7, -1, 2**32 + 1:
-            self.assert_refused(2, cbgrid.multiply, square, square, grid=grid)
         self.assert_refused(1, cbgrid.multiply, square, square, "plus")
-        self.assert_refused(3, cbgrid.prune, square, "under", 1)
+        self.assert_refused(2, cbgrid.prune, square, "under", 1)
         for value in -1, 2**64:
             self.assert_refused(9, cbgrid.prune, abs(square), "below", value)
-        self.assertRaises(TypeError, cbgrid.multiply, square, square, grid=1.0)
 
     def test_values(self):
         a = sp.csc_matrix(np.array([[1, -2], [0, 3]]))

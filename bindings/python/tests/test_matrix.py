@@ -133,7 +133,7 @@ class Kept(unittest.TestCase):
         for call in (lambda: a @ b, lambda: a + b, lambda: b * a, lambda: cbgrid.multiply(a, a, "or-and"), lambda: cbgrid.bfs(a, 0)):
             with self.assertRaises(cbgrid.CbgridValueError) as raised:
                 call()
-            self.assertEqual(raised.exception.code, 16)
+            self.assertEqual(raised.exception.code, 3)
         wrong = (
             (lambda: cbgrid.Matrix(np.array([[1, 2], [-3, 4]])), 9, "source: entry 2 is -3"),
             (lambda: cbgrid.Matrix.from_triples([0], [0], [2**64], (1, 1)), 9, "values: entry 0 is 18446744073709551616"),

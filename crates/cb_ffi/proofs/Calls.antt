@@ -4,7 +4,7 @@ use Rattle.std.specs.Prelude.{Option, Result, Ok, Err, IfOk, IfErr}
 use Rattle.cb_interop.specs.declared.faults.Fault.{Fault}
 use Rattle.cb_interop.specs.declared.faults.Fault.TheVariants.{Text}
 use Rattle.cb_interop.specs.Refusals.{code_of}
-use Rattle.cb_interop.specs.Answers.{IsAnswer, IsLineOf, IsFaultLine}
+use Rattle.cb_interop.specs.Answers.{IsAnswer, IsLineOf}
 use Rattle.cb_ffi.specs.Calls.{IsCall, IsLine}
 use Rattle.cb_market_lines.specs.declared.ReadFault.{ReadFault}
 
@@ -26,9 +26,3 @@ call_of faults is (Err f) code old new a h k = record {
 pub line_at : (first : Option ReadFault) (f : Fault) (code old new : ℕ) → IsLineOf first f old new → code ≡ code_of f → IsLine first code old new
 line_at first Text code old new a e = record { text = λ _. a; other = λ n. absurd (n e) }
 line_at first f code old new a e = record { text = λ z. absurd (omega arith); other = λ _. a }
-
--- the line of a text that is read, as C gets it
-pub line_of : {X : Type 0} (first : Option ReadFault) (r : Result X Fault) (code old new : ℕ) (was now : X) → IsFaultLine first r old new
-    → IfOk r (λ x. (code ≡ 0) × (now ≡ x)) → IfErr r (λ f. (code ≡ code_of f) × (code ≢ 0) × (now ≡ was)) → IsLine first code old new
-line_of first (Ok x) code old new was now a h k = let e = h.0 in record { text = λ z. absurd (omega arith); other = λ _. a }
-line_of first (Err f) code old new was now a h k = line_at first f code old new a k.0

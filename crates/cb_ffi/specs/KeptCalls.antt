@@ -11,7 +11,7 @@ use Rattle.cb_interop.specs.declared.triples.Triple.{Triple}
 use Rattle.cb_interop.specs.declared.faults.Fault.{Fault}
 use Rattle.cb_interop.specs.declared.faults.Fault.TheVariants.{Memory}
 use Rattle.cb_interop.specs.declared.kept.Kept.{Kept}
-use Rattle.cb_interop.specs.Refusals.{code_of, over, read_faults, text_faults, IsMemory}
+use Rattle.cb_interop.specs.Refusals.{code_of, over, read_faults, list_faults, IsMemory}
 use Rattle.cb_interop.specs.KeptAnswers.{kept_faults, HasMadeKept, OverName, IsKeptOf}
 use Rattle.cb_interop.specs.declared.selections.Selection.{Selection}
 use Rattle.cb_interop.specs.Kept.{matrix_in}
@@ -86,7 +86,7 @@ HasHandedOut code old new k = ((code ≡ 0) × Has (λ x. x ≡ k) new) ⊎ ((co
 -- what C gets of the call that keeps the matrix of lists
 abbrev pub IsKeepCall : ℕ → Columns → ℕ → Owned → Owned → Type 0
 IsKeepCall semiring a code old new =
-    IsKeptCallOver semiring (λ s. text_faults s a) (λ s name. IsKeptOf s name a) code old new
+    IsKeptCallOver semiring (λ s. list_faults s a) (λ s name. IsKeptOf s name a) code old new
 
 -- the same of triples
 abbrev pub IsTriplesCall : ℕ → ℕ → ℕ → List Triple → ℕ → Owned → Owned → Type 0

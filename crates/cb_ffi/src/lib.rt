@@ -1,26 +1,24 @@
-//! The kernel for programs in C: operations on sparse matrices in compressed columns.
+//! The kernel for programs in C: operations on kept sparse matrices.
 //!
-//! A call takes matrices as [`Columns`], whose lists it reads and neither changes nor keeps. It returns 0 if it has written
-//! its result to `out`. Otherwise it returns the number of the first fault ([`Fault::code`]) and leaves `out` as it was. It
-//! looks for all faults before it takes memory, except for those of a text, which it finds while it reads.
+//! A kept matrix ([`Owned`], [`Lent`]) is a block over one semiring, behind an opaque pointer. A call takes kept matrices,
+//! reads their blocks where they are, and writes a new kept matrix to `out`. It returns 0 if it has written its result.
+//! Otherwise it returns the number of the first fault ([`Fault::code`]) and leaves `out` as it was. It looks for all faults
+//! before it takes memory, except for those of a text, which it finds while it reads.
 //!
-//! The lists of a result belong to the caller. Each list that isn't empty is memory of the program's `malloc`; release it
-//! with `free`.
-//!
-//! A kept matrix ([`Owned`], [`Lent`]) is a block over one semiring, behind an opaque pointer. The calls with `kept` in their
-//! names take kept matrices, read their blocks where they are, and write a new kept matrix to `out`.
+//! A kept matrix is made of lists in compressed columns ([`Columns`]), which a call reads and neither changes nor keeps, of
+//! triples or of a text. The lists and the text of a kept matrix belong to the caller. Each list that isn't empty is memory
+//! of the program's `malloc`; release it with `free`.
 //!
 //! `semiring` is a number of `cb_semirings::SemiringName`: 0 (plus-times), 1 (min-plus), 2 (or-and), 3 (max-min), and so
 //! on.
 //!
-//! `grid` is the side of a grid, 1 to 6. It is checked and has no other effect: each call works on whole blocks, on the
-//! caller's thread. A program with threads divides the columns of a product ([`cbgrid_kernel_kept_ends`]), makes a panel
-//! of it in each thread ([`cbgrid_kernel_kept_panel`], [`cbgrid_kernel_kept_masked_panel`],
-//! [`cbgrid_kernel_kept_outside_panel`]), and joins the panels in order ([`cbgrid_kernel_kept_join`]).
+//! Each call works on the caller's thread. A program with threads divides the columns of a product
+//! ([`cbgrid_kernel_kept_ends`]), makes a panel of it in each thread ([`cbgrid_kernel_kept_panel`],
+//! [`cbgrid_kernel_kept_masked_panel`], [`cbgrid_kernel_kept_outside_panel`]), and joins the panels in order
+//! ([`cbgrid_kernel_kept_join`]).
 #![tactic(auto)]
 
 ghost use Rattle.std.specs.Prelude.{◌≡◌, ◌≢◌, [], ◌∷◌, length, ◌==◌, not, Some, None, IfSome, IsSome, IfOk, IfErr, option_copied};
-ghost use Rattle.cb_semirings.specs.Tables.{min_plus, or_and};
 ghost use Rattle.cb_semirings.specs.Names.{arithmetic_of, numbered};
 ghost use Rattle.cb_semirings.specs.declared.names.SemiringName.TheVariants as name_is;
 ghost use Rattle.cb_matrix.specs.Sparse.{at};
@@ -32,10 +30,9 @@ ghost use Rattle.cb_searches.specs.SeveralSources.{AreDistancesFrom, AreLevelsFr
 ghost use Rattle.cb_searches.specs.GivenNumbers.{AreDistancesGiven, AreLevelsGiven};
 ghost use Rattle.cb_graphs.specs.Triangles.{triangle_count, stopped};
 ghost use Rattle.cb_lists.specs.Lists.{HasLists};
-ghost use Rattle.cb_interop.specs.Refusals.{code_of, IsMemory, first_over, graph_faults, read_faults, text_faults};
-ghost use Rattle.cb_interop.specs.Answers.{prune_of, HasNumbers, IsRead, IsTextOf};
+ghost use Rattle.cb_interop.specs.Refusals.{code_of, IsMemory, first_over};
 ghost use Rattle.cb_interop.specs.Kept.{matrix_in, semiring_of};
-ghost use Rattle.cb_interop.specs.KeptAnswers.{IsSummary};
+ghost use Rattle.cb_interop.specs.KeptAnswers.{prune_of, IsSummary};
 ghost use Rattle.cb_interop.specs.KeptGraphs.{search_faults, square_faults, IsKeptColumn, IsKeptComponents, IsKeptParents};
 ghost use Rattle.cb_reductions.specs.Sums.{matrix_total};
 ghost use Rattle.cb_interop.specs.declared.pairings.Pairing.TheVariants as pairing_is;
@@ -45,18 +42,18 @@ ghost use Rattle.cb_interop.specs.KeptUpdates.{write_back_of};
 ghost use Rattle.cb_interop.specs.declared.axes.Axis.TheVariants as axis_is;
 ghost use Rattle.cb_interop.specs.declared.kept_masked_panels.Allowed.TheVariants as allowed_is;
 ghost use Rattle.cb_interop.specs.KeptTexts.{IsKeptText};
-ghost use Rattle.cb_ffi.specs.Calls.{IsCall, IsCallOver, IsLine, IsOperationCall};
+ghost use Rattle.cb_ffi.specs.Calls.{IsCall, IsLine};
 ghost use Rattle.cb_ffi.specs.KeptCalls.{HasHandedOut, IsDegreesCall, IsEndsCall, IsExtractCall, IsJoinCall, IsKeepCall, IsKeptCall, IsKeptOperation, IsMaskedPanelCall, IsNumbersFromCall, IsNumbersGivenCall, IsOutsideCall, IsOwnedJoinCall, IsPairCall, IsPanelCall, IsReadCall, IsSelectionCall, IsTriplesCall, IsUpdateCall};
 
 mod handles;
 
 use cb_interop::{
-    Allowed, Axis, Fault, Kept, Pairing, Selection, Summary, Text, Triple, answer, function_of,
-    keep_lists, keep_triples, kept_components, kept_degrees, kept_ends, kept_extract, kept_join,
+    Allowed, Axis, Fault, Kept, Pairing, Selection, Summary, Text, Triple, function_of, keep_lists,
+    keep_triples, kept_components, kept_degrees, kept_ends, kept_extract, kept_join,
     kept_masked_panel, kept_numbers, kept_numbers_from, kept_numbers_given, kept_outside,
     kept_pair, kept_panel, kept_parents, kept_selection, kept_total, kept_triangles, kept_update,
-    lists_of, numbers, operate, prune_of, read_kept, read_lists, region_of, summary_of, text_of,
-    text_of_lists, value_at, write_back_of,
+    lists_of, operate, prune_of, read_kept, region_of, summary_of, text_of, value_at,
+    write_back_of,
 };
 use cb_lists::Columns;
 use cb_operations::Operation;
@@ -78,21 +75,6 @@ fn put<T: Copy>(out: &mut T, answer: Result<T, Fault>) -> u32
         }
         Err(fault) => fault.code(),
     }
-}
-
-/// Writes the result of an operation on lists, or returns the number of the fault.
-fn call(
-    alloc: Global,
-    semiring: u32,
-    grid: u32,
-    operation: Option<Operation>,
-    operands: &[Columns],
-    out: &mut Columns,
-) -> u32
-    requires { IfSome operation (λ o. length operands.now ≡ operand_count_of o) }
-    ensures { IsOperationCall semiring grid operation operands.now result out.old out.new }
-{
-    put(out, answer(alloc, semiring, grid, operation, operands))
 }
 
 /// Hands a kept matrix to C, or returns the number of the fault. Takes one allocation.
@@ -221,209 +203,6 @@ fn join_kept(
             fault.code()
         }
     }
-}
-
-/// Multiplies two matrices.
-#[unsafe(no_mangle)]
-pub extern "C" fn cbgrid_kernel_multiply(
-    alloc: Global,
-    semiring: u32,
-    grid: u32,
-    a: &Columns,
-    b: &Columns,
-    out: &mut Columns,
-) -> u32
-    ensures { IsOperationCall semiring grid (Some operation_is.Multiply) (a.now ∷ b.now ∷ []) result out.old out.new }
-{
-    let operation = Some(Operation::Multiply);
-    call(alloc, semiring, grid, operation, &[*a, *b], out)
-}
-
-/// Multiplies two matrices at the places where a mask has entries.
-#[unsafe(no_mangle)]
-pub extern "C" fn cbgrid_kernel_multiply_masked(
-    alloc: Global,
-    semiring: u32,
-    grid: u32,
-    a: &Columns,
-    b: &Columns,
-    mask: &Columns,
-    out: &mut Columns,
-) -> u32
-    ensures { IsOperationCall semiring grid (Some operation_is.MultiplyMasked) (a.now ∷ b.now ∷ mask.now ∷ []) result out.old out.new }
-{
-    let operation = Some(Operation::MultiplyMasked);
-    call(alloc, semiring, grid, operation, &[*a, *b, *mask], out)
-}
-
-/// Multiplies a matrix and a vector, which is a matrix of one column.
-#[unsafe(no_mangle)]
-pub extern "C" fn cbgrid_kernel_vector(
-    alloc: Global,
-    semiring: u32,
-    grid: u32,
-    a: &Columns,
-    x: &Columns,
-    out: &mut Columns,
-) -> u32
-    ensures { IsOperationCall semiring grid (Some operation_is.MultiplyVector) (a.now ∷ x.now ∷ []) result out.old out.new }
-{
-    let operation = Some(Operation::MultiplyVector);
-    call(alloc, semiring, grid, operation, &[*a, *x], out)
-}
-
-/// Transposes a matrix.
-#[unsafe(no_mangle)]
-pub extern "C" fn cbgrid_kernel_transpose(
-    alloc: Global,
-    semiring: u32,
-    grid: u32,
-    a: &Columns,
-    out: &mut Columns,
-) -> u32
-    ensures { IsOperationCall semiring grid (Some operation_is.Transpose) (a.now ∷ []) result out.old out.new }
-{
-    let operation = Some(Operation::Transpose);
-    call(alloc, semiring, grid, operation, &[*a], out)
-}
-
-/// Adds up each row of a matrix, into one column.
-#[unsafe(no_mangle)]
-pub extern "C" fn cbgrid_kernel_row_sums(
-    alloc: Global,
-    semiring: u32,
-    grid: u32,
-    a: &Columns,
-    out: &mut Columns,
-) -> u32
-    ensures { IsOperationCall semiring grid (Some operation_is.RowSums) (a.now ∷ []) result out.old out.new }
-{
-    let operation = Some(Operation::RowSums);
-    call(alloc, semiring, grid, operation, &[*a], out)
-}
-
-/// Adds up each column of a matrix, into one row.
-#[unsafe(no_mangle)]
-pub extern "C" fn cbgrid_kernel_column_sums(
-    alloc: Global,
-    semiring: u32,
-    grid: u32,
-    a: &Columns,
-    out: &mut Columns,
-) -> u32
-    ensures { IsOperationCall semiring grid (Some operation_is.ColumnSums) (a.now ∷ []) result out.old out.new }
-{
-    let operation = Some(Operation::ColumnSums);
-    call(alloc, semiring, grid, operation, &[*a], out)
-}
-
-/// Adds two matrices of one shape, place by place.
-#[unsafe(no_mangle)]
-pub extern "C" fn cbgrid_kernel_add(
-    alloc: Global,
-    semiring: u32,
-    grid: u32,
-    a: &Columns,
-    b: &Columns,
-    out: &mut Columns,
-) -> u32
-    ensures { IsOperationCall semiring grid (Some operation_is.Add) (a.now ∷ b.now ∷ []) result out.old out.new }
-{
-    call(alloc, semiring, grid, Some(Operation::Add), &[*a, *b], out)
-}
-
-/// Multiplies two matrices of one shape, place by place.
-#[unsafe(no_mangle)]
-pub extern "C" fn cbgrid_kernel_times(
-    alloc: Global,
-    semiring: u32,
-    grid: u32,
-    a: &Columns,
-    b: &Columns,
-    out: &mut Columns,
-) -> u32
-    ensures { IsOperationCall semiring grid (Some operation_is.Times) (a.now ∷ b.now ∷ []) result out.old out.new }
-{
-    let operation = Some(Operation::Times);
-    call(alloc, semiring, grid, operation, &[*a, *b], out)
-}
-
-/// Drops the entries of a matrix whose value passes a test: 0 for values below the bound, 1 for those above it, 2 for those
-/// equal to it.
-#[unsafe(no_mangle)]
-pub extern "C" fn cbgrid_kernel_prune(
-    alloc: Global,
-    semiring: u32,
-    grid: u32,
-    a: &Columns,
-    test: u32,
-    bound: u64,
-    out: &mut Columns,
-) -> u32
-    ensures { IsOperationCall semiring grid (prune_of test bound) (a.now ∷ []) result out.old out.new }
-{
-    call(alloc, semiring, grid, prune_of(test, bound), &[*a], out)
-}
-
-/// Breadth-first search: the least number of edges from a source to each vertex of a graph. The graph is a square matrix over
-/// or-and; an entry at row i and column j is an edge from i to j. The result is one column over min-plus, with an entry for
-/// each vertex that the source reaches. The source has level 0.
-#[unsafe(no_mangle)]
-pub extern "C" fn cbgrid_kernel_levels(
-    alloc: Global,
-    grid: u32,
-    graph: &Columns,
-    source: u32,
-    out: &mut Columns,
-) -> u32
-    ensures { IsCall (graph_faults or_and grid graph.now source) (HasNumbers or_and AreLevels graph.now source) result out.old out.new }
-{
-    put(out, numbers::<OrAnd>(alloc, grid, graph, source))
-}
-
-/// Shortest paths: the least sum of edge lengths from a source to each vertex of a graph. Like [`cbgrid_kernel_levels`], but
-/// the graph is a matrix over min-plus, and the value of an entry is the length of its edge. A vertex at a distance of
-/// 2^64 - 1 or more has no entry.
-#[unsafe(no_mangle)]
-pub extern "C" fn cbgrid_kernel_distances(
-    alloc: Global,
-    grid: u32,
-    graph: &Columns,
-    source: u32,
-    out: &mut Columns,
-) -> u32
-    ensures { IsCall (graph_faults min_plus grid graph.now source) (HasNumbers min_plus AreDistances graph.now source) result out.old out.new }
-{
-    put(out, numbers::<MinPlus>(alloc, grid, graph, source))
-}
-
-/// Reads the matrix of a Matrix Market text. If the text has a fault (code 13), `line` gets its line, counted from 1;
-/// otherwise `line` is left as it was.
-#[unsafe(no_mangle)]
-pub extern "C" fn cbgrid_kernel_read(
-    alloc: Global,
-    semiring: u32,
-    text: &[u8],
-    line: &mut u64,
-    out: &mut Columns,
-) -> u32
-    ensures call { IsCallOver semiring (λ s. read_faults s text.now) (λ s. IsRead s text.now) result out.old out.new }
-    ensures line { IsLine (first_over (numbered semiring) text.now) result line.old line.new }
-{
-    put(out, read_lists(alloc, semiring, text, line))
-}
-
-/// Writes the Matrix Market text of a matrix.
-#[unsafe(no_mangle)]
-pub extern "C" fn cbgrid_kernel_text(
-    alloc: Global,
-    semiring: u32,
-    a: &Columns,
-    out: &mut Text,
-) -> u32
-    ensures { IsCallOver semiring (λ s. text_faults s a.now) (λ s. IsTextOf s a.now) result out.old out.new }
-{
-    put(out, text_of_lists(alloc, semiring, a))
 }
 
 /// Keeps the matrix of lists. The entries are copied once.
@@ -856,7 +635,8 @@ pub extern "C" fn cbgrid_kernel_keep_triples(
     put_kept(alloc, out, answer)
 }
 
-/// Reads the matrix of a Matrix Market text, and keeps it. `line` is that of [`cbgrid_kernel_read`].
+/// Reads the matrix of a Matrix Market text, and keeps it. If the text has a fault (code 13), `line` gets its line, counted
+/// from 1; otherwise `line` is left as it was.
 #[unsafe(no_mangle)]
 pub extern "C" fn cbgrid_kernel_kept_read(
     alloc: Global,

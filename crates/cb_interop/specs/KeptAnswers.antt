@@ -1,9 +1,11 @@
 -- What a call on kept matrices returns.
-use Rattle.std.specs.Prelude.{◌≡◌, ℕ, List, length, map, Option, Some, None, Result}
+use Rattle.std.specs.Prelude.{◌≡◌, ℕ, ◌==◌, cond, List, length, map, Option, Some, None, Result}
+use Rattle.cb_matrix.specs.declared.passing.Test.TheVariants.{Below, Above, Equal}
 use Rattle.cb_semirings.specs.Arithmetic.{Arithmetic}
 use Rattle.cb_semirings.specs.declared.names.SemiringName.{SemiringName}
 use Rattle.cb_semirings.specs.Names.{arithmetic_of, numbered}
 use Rattle.cb_operations.specs.declared.operations.Operation.{Operation}
+use Rattle.cb_operations.specs.declared.operations.Operation.TheVariants.{Prune}
 use Rattle.cb_operations.specs.OperationAnswers.{Agree, answer_of, shapes_in}
 use Rattle.cb_interop.specs.declared.faults.Fault.{Fault}
 use Rattle.cb_interop.specs.declared.faults.Fault.TheVariants.{Test, Mixed, Shapes}
@@ -14,6 +16,10 @@ use Rattle.cb_lists.specs.Lists.{matrix_of}
 use Rattle.cb_interop.specs.Kept.{Keeps, semiring_of, semiring_in, matrix_in, AreOver}
 use Rattle.cb_interop.specs.Refusals.{Unless, IsMemory, over}
 use Rattle.cb_interop.specs.Answers.{IsAnswer}
+
+-- the prune by the test of a number, 0 to 2, with its bound
+abbrev pub prune_of : ℕ → ℕ → Option Operation
+prune_of n bound = cond (n == 0) (Some (Prune (Below bound))) (cond (n == 1) (Some (Prune (Above bound))) (cond (n == 2) (Some (Prune (Equal bound))) None))
 
 -- the faults of an operation on kept matrices: no test has the number of a prune, their semirings differ, or their shapes
 -- don't agree

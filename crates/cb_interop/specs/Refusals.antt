@@ -1,22 +1,20 @@
 -- The faults of calls. A call looks for them in an order, and returns the first.
-use Rattle.std.specs.Prelude.{◌≡◌, ◌≢◌, ℕ, ◌<◌, ◌≤◌, ◌⊎◌, List, [], ◌∷◌, map, Option, Some, None}
+use Rattle.std.specs.Prelude.{◌≡◌, ◌≢◌, ℕ, ◌⊎◌, List, Option, Some, None}
 use Rattle.cb_semirings.specs.Arithmetic.{Arithmetic}
 use Rattle.cb_semirings.specs.declared.names.SemiringName.{SemiringName}
 use Rattle.cb_semirings.specs.Names.{arithmetic_of}
-use Rattle.cb_operations.specs.declared.operations.Operation.{Operation}
-use Rattle.cb_operations.specs.OperationAnswers.{Agree}
 use Rattle.cb_market_lines.specs.declared.ReadFault.{ReadFault}
 use Rattle.cb_market_lines.specs.Faults.{first_fault}
 use Rattle.cb_lists.specs.declared.lists.Columns.{Columns}
 use Rattle.cb_interop.specs.declared.faults.Fault.{Fault}
-use Rattle.cb_interop.specs.declared.faults.Fault.TheVariants.{Semiring, Grid, Test, Form, TooLarge, Lengths, Order, Place, Value, Shapes, NotSquare, Source, Text, Memory, Mixed}
-use Rattle.cb_lists.specs.Lists.{shape_of, HasForm, Fits, HaveLengths, AreOrdered, AreInside, AreValues}
+use Rattle.cb_interop.specs.declared.faults.Fault.TheVariants.{Semiring, Test, Mixed, Form, TooLarge, Lengths, Order, Place, Value, Shapes, NotSquare, Source, Text, Memory}
+use Rattle.cb_lists.specs.Lists.{HasForm, Fits, HaveLengths, AreOrdered, AreInside, AreValues}
 
 -- the number of a fault
 abbrev pub code_of : Fault → ℕ
 code_of Semiring = 1
-code_of Grid = 2
-code_of Test = 3
+code_of Test = 2
+code_of Mixed = 3
 code_of Form = 4
 code_of TooLarge = 5
 code_of Lengths = 6
@@ -28,7 +26,6 @@ code_of NotSquare = 11
 code_of Source = 12
 code_of Text = 13
 code_of Memory = 14
-code_of Mixed = 16
 
 -- the fault g if P doesn't hold, or else one of the faults that come next
 abbrev pub Unless : Type 0 → Fault → (Fault → Type 0) → Fault → Type 0
@@ -48,31 +45,9 @@ matrix_faults s c next =
     (Unless (AreInside c) Place
     (Unless (AreValues s c) Value next)))))
 
--- the faults of matrices, one after another
-unfoldable pub each_faults : Arithmetic → List Columns → (Fault → Type 0) → Fault → Type 0
-each_faults s [] next = next
-each_faults s (c ∷ cs) next = matrix_faults s c (each_faults s cs next)
-
--- a grid has a side of 1 to 6
-abbrev pub IsSide : ℕ → Type 0
-IsSide side = (1 ≤ side) × (side ≤ 6)
-
--- ---- the faults of each call, over one semiring
--- The faults of an operation: no test has the number of a prune; then those of each matrix in turn; then shapes that don't
--- agree.
-unfoldable pub operand_faults : Arithmetic → Option Operation → List Columns → Fault → Type 0
-operand_faults s None cs = λ f. f ≡ Test
-operand_faults s (Some operation) cs = each_faults s cs (Unless (Agree operation (map shape_of cs)) Shapes IsMemory)
-
-unfoldable pub faults_of : Arithmetic → ℕ → Option Operation → List Columns → Fault → Type 0
-faults_of s side operation cs = Unless (IsSide side) Grid (operand_faults s operation cs)
-
-unfoldable pub graph_faults : Arithmetic → ℕ → Columns → ℕ → Fault → Type 0
-graph_faults s side a source =
-    Unless (IsSide side) Grid (matrix_faults s a (Unless (a.nrows ≡ a.ncols) NotSquare (Unless (source < a.nrows) Source IsMemory)))
-
-unfoldable pub text_faults : Arithmetic → Columns → Fault → Type 0
-text_faults s a = matrix_faults s a IsMemory
+-- the faults of lists, over one semiring
+unfoldable pub list_faults : Arithmetic → Columns → Fault → Type 0
+list_faults s a = matrix_faults s a IsMemory
 
 -- a text with a fault; memory may be refused before the fault is found
 abbrev pub read_faults : Arithmetic → List ℕ → Fault → Type 0
@@ -83,11 +58,6 @@ read_faults s text f = ((f ≡ Text) × (first_fault s text ≢ None)) ⊎ (f �
 abbrev pub over : Option SemiringName → (Arithmetic → Fault → Type 0) → Fault → Type 0
 over None faults = λ f. f ≡ Semiring
 over (Some name) faults = faults (arithmetic_of name)
-
--- what holds over that semiring, and over none
-abbrev pub Over : Option SemiringName → (Arithmetic → Type 0) → Type 0
-Over None P = ⊥
-Over (Some name) P = P (arithmetic_of name)
 
 -- the first fault of a text over that semiring
 abbrev pub first_over : Option SemiringName → List ℕ → Option ReadFault

@@ -4,17 +4,15 @@ ghost use Rattle.cb_interop.specs.Refusals.{code_of};
 
 use std::alloc::AllocError;
 
-/// Why a call fails. A call on lists looks for faults in the order of these variants, and for those of a matrix, `Form` to
-/// `Value`, in each operand in turn. A call on kept matrices looks for `Mixed` before all others but `Test`. `Memory` comes
-/// last.
+/// Why a call fails. A call looks for faults in the order of these variants. `Memory` comes last.
 #[derive(Clone, Copy)]
 pub enum Fault {
     /// No semiring has the number.
     Semiring,
-    /// The side of the grid is not 1 to 6.
-    Grid,
     /// No test, region, function, update or power has the number.
     Test,
+    /// Kept matrices are over different semirings, or a graph isn't over the semiring of the call.
+    Mixed,
     /// The kind of a matrix, or the width of its starts, is above 1.
     Form,
     /// There are more than 2,147,483,647 rows, columns or sources.
@@ -37,8 +35,6 @@ pub enum Fault {
     Text,
     /// Memory was refused.
     Memory,
-    /// Kept matrices are over different semirings, or a graph isn't over the semiring of the call.
-    Mixed,
 }
 
 impl From<AllocError> for Fault {
@@ -59,8 +55,8 @@ impl Fault {
     {
         match self {
             Fault::Semiring => 1,
-            Fault::Grid => 2,
-            Fault::Test => 3,
+            Fault::Test => 2,
+            Fault::Mixed => 3,
             Fault::Form => 4,
             Fault::TooLarge => 5,
             Fault::Lengths => 6,
@@ -72,7 +68,6 @@ impl Fault {
             Fault::Source => 12,
             Fault::Text => 13,
             Fault::Memory => 14,
-            Fault::Mixed => 16,
         }
     }
 }

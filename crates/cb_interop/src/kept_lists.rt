@@ -1,6 +1,6 @@
 //! Kept matrices from lists, and lists of a kept matrix.
 ghost use Rattle.cb_lists.specs.Lists.{HasLists};
-ghost use Rattle.cb_interop.specs.Refusals.{IsMemory, text_faults};
+ghost use Rattle.cb_interop.specs.Refusals.{IsMemory, list_faults};
 ghost use Rattle.cb_interop.specs.Answers.{IsAnswer};
 ghost use Rattle.cb_interop.specs.Kept.{matrix_in};
 ghost use Rattle.cb_interop.specs.KeptAnswers.{IsKeptAnswerOver, IsKeptOf};
@@ -16,7 +16,7 @@ use std::alloc::Global;
 
 /// The matrix of lists, kept over a semiring.
 fn keep_over<S: Keep>(alloc: Global, a: &Columns) -> Result<Kept, Fault>
-    ensures { IsAnswer (text_faults S.arithmetic a.now) (IsKeptOf S.arithmetic S.name a.now) result }
+    ensures { IsAnswer (list_faults S.arithmetic a.now) (IsKeptOf S.arithmetic S.name a.now) result }
 {
     check_lists::<S>(a)?;
     let mut block = block_of::<S>(alloc, a)?;
@@ -25,7 +25,7 @@ fn keep_over<S: Keep>(alloc: Global, a: &Columns) -> Result<Kept, Fault>
 
 /// Keeps the matrix of lists, over the semiring of a number. The entries are copied once.
 pub fn keep_lists(alloc: Global, semiring: u32, a: &Columns) -> Result<Kept, Fault>
-    ensures { IsKeptAnswerOver semiring (λ s. text_faults s a.now) (λ s name. IsKeptOf s name a.now) result }
+    ensures { IsKeptAnswerOver semiring (λ s. list_faults s a.now) (λ s name. IsKeptOf s name a.now) result }
 {
     match SemiringName::numbered(semiring) {
         Some(name) => over_semiring!(name, keep_over::<_>(alloc, a)),

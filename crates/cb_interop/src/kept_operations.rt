@@ -3,19 +3,34 @@ ghost use Rattle.std.specs.Prelude.{◌≡◌, length, map, Some, IfSome, IfOk};
 ghost use Rattle.cb_operations.specs.OperationAnswers.{operand_count_of, Agree, answer_of, shapes_in};
 ghost use Rattle.cb_semirings.specs.Names.{arithmetic_of};
 ghost use Rattle.cb_serial.specs.Lent.{lent_in};
-ghost use Rattle.cb_interop.specs.Kept.{Keeps, AreOver, semiring_of, semiring_in, matrix_in};
+ghost use Rattle.cb_interop.specs.Kept.{Keeps, AreOver, semiring_of, matrix_in};
 ghost use Rattle.cb_interop.specs.Answers.{IsAnswer};
-ghost use Rattle.cb_interop.specs.KeptAnswers.{kept_faults, HasMadeKept};
+ghost use Rattle.cb_interop.specs.KeptAnswers.{kept_faults, prune_of, HasMadeKept};
 
 use crate::faults::Fault;
 use crate::keeping::Keep;
 use crate::kept::Kept;
 use crate::kept_checks::common_semiring;
 use cb_dcsc::Block;
+use cb_matrix::Test;
 use cb_operations::Operation;
 use cb_semirings::{SemiringName, over_semiring};
 use cb_serial::{binary, ternary, unary};
 use std::alloc::{AllocError, Global};
+
+/// Returns the operation that prunes by the test of a number with a bound: 0 drops values below it, 1 those above it, 2
+/// those equal to it. No other number has a test.
+pub fn prune_of(test: u32, bound: u64) -> Option<Operation>
+    ensures operation { result ≡ prune_of test bound }
+    ensures count { IfSome result (λ o. 1 ≡ operand_count_of o) }
+{
+    match test {
+        0 => Some(Operation::Prune(Test::Below(bound))),
+        1 => Some(Operation::Prune(Test::Above(bound))),
+        2 => Some(Operation::Prune(Test::Equal(bound))),
+        _ => None,
+    }
+}
 
 /// The block of a kept matrix, over its semiring.
 pub(crate) fn block_in<S: Keep>(kept: &Kept) -> &Block<S>

@@ -1,8 +1,8 @@
 //! Matrix Market texts, to and from kept matrices.
 ghost use Rattle.cb_semirings.specs.Names.{arithmetic_of, numbered};
 ghost use Rattle.cb_market_lines.specs.Faults.{first_fault};
-ghost use Rattle.cb_interop.specs.Refusals.{IsMemory, first_over, read_faults, text_faults};
-ghost use Rattle.cb_interop.specs.Answers.{IsAnswer, IsAnswerOver, IsFaultLine, IsTextOf};
+ghost use Rattle.cb_interop.specs.Refusals.{IsMemory, first_over, read_faults};
+ghost use Rattle.cb_interop.specs.Answers.{IsAnswer, IsFaultLine};
 ghost use Rattle.cb_interop.specs.Kept.{semiring_of};
 ghost use Rattle.cb_interop.specs.KeptAnswers.{IsKeptAnswerOver};
 ghost use Rattle.cb_interop.specs.KeptTexts.{IsKeptText, IsKeptRead};
@@ -10,9 +10,7 @@ ghost use Rattle.cb_interop.specs.KeptTexts.{IsKeptText, IsKeptRead};
 use crate::faults::Fault;
 use crate::keeping::Keep;
 use crate::kept::{Kept, of_block};
-use crate::kept_lists::keep_lists;
 use crate::texts::{Text, block_text, read_block};
-use cb_lists::Columns;
 use cb_semirings::{SemiringName, over_semiring};
 use std::alloc::Global;
 
@@ -22,14 +20,6 @@ pub fn text_of(alloc: Global, kept: &Kept) -> Result<Text, Fault>
     ensures { IsAnswer IsMemory (IsKeptText (arithmetic_of (semiring_of kept.now)) kept.now) result }
 {
     of_block!(kept, block => block_text(alloc, block))
-}
-
-/// Returns the Matrix Market text of lists, over the semiring of a number. The entries are copied once.
-pub fn text_of_lists(alloc: Global, semiring: u32, a: &Columns) -> Result<Text, Fault>
-    ensures { IsAnswerOver semiring (λ s. text_faults s a.now) (λ s. IsTextOf s a.now) result }
-{
-    let kept = keep_lists(alloc, semiring, a)?;
-    text_of(alloc, &kept)
 }
 
 /// The matrix of a text, kept over a semiring.

@@ -1,15 +1,14 @@
-//! Sparse matrices for programs in other languages: as lists in compressed columns, or as kept matrices, each over one of
-//! the semirings.
+//! Sparse matrices for programs in other languages: kept matrices, each over one of the semirings.
 //!
-//! A call takes matrices as [`Columns`](cb_lists::Columns), whose lists it reads and neither changes nor keeps, or as [`Kept`] matrices, whose
-//! blocks it reads where they are. It returns its result or the first [`Fault`]. It looks for all faults before it takes
+//! A kept matrix is made of lists in compressed columns ([`Columns`](cb_lists::Columns), which a call reads and neither
+//! changes nor keeps), of triples or of a text, and gives its lists and its text back. A call takes [`Kept`] matrices, reads
+//! their blocks where they are, and returns its result or the first [`Fault`]. It looks for all faults before it takes
 //! memory, except for those of a text, which it finds while it reads.
 //!
 //! The lists of a result belong to the caller. This crate never frees them.
 //!
 //! A semiring is given by its number in `cb_semirings::SemiringName`: 0 (plus-times), 1 (min-plus), 2 (or-and), 3
-//! (max-min), and so on. The side of a grid, 1 to 6, is checked and has no other effect: each call works on whole blocks,
-//! on the caller's thread.
+//! (max-min), and so on.
 #![tactic(auto)]
 
 mod axes;
@@ -33,13 +32,10 @@ mod kept_texts;
 mod kept_updates;
 mod kept_values;
 mod kept_walks;
-mod outgoing;
 mod pairings;
-mod requests;
 mod selections;
 mod texts;
 mod triples;
-mod walks;
 
 pub use axes::{Axis, kept_degrees};
 pub use faults::Fault;
@@ -48,19 +44,17 @@ pub use kept_given::kept_numbers_given;
 pub use kept_graphs::{kept_components, kept_parents, kept_triangles};
 pub use kept_lists::{keep_lists, lists_of};
 pub use kept_masked_panels::{Allowed, kept_masked_panel};
-pub use kept_operations::operate;
+pub use kept_operations::{operate, prune_of};
 pub use kept_pairings::kept_pair;
 pub use kept_panels::{kept_ends, kept_join, kept_panel};
 pub use kept_products::kept_outside;
 pub use kept_selections::{kept_extract, kept_selection, kept_total};
 pub use kept_sources::kept_numbers_from;
-pub use kept_texts::{read_kept, text_of, text_of_lists};
+pub use kept_texts::{read_kept, text_of};
 pub use kept_updates::{kept_update, write_back_of};
 pub use kept_values::{Summary, summary_of, value_at};
 pub use kept_walks::kept_numbers;
 pub use pairings::Pairing;
-pub use requests::{answer, prune_of};
 pub use selections::{Selection, function_of, region_of};
-pub use texts::{Text, read_lists};
+pub use texts::Text;
 pub use triples::{Triple, keep_triples};
-pub use walks::numbers;

@@ -49,36 +49,30 @@ also accept a `Matrix` as their first matrix. They then work over its semiring, 
 matrices of scipy, and a result that is a matrix is a `Matrix`. Functions of graphs need a `Matrix` over
 ``or-and``; `relax` and `relax_given` need one over ``min-plus``.
 
-**grid.** The side of a grid, 1 to 6. It is checked and has no other effect: each call works on whole matrices,
-on the caller's thread.
-
 **Errors.** An invalid argument raises a `CbgridValueError` (a ValueError), and failure to allocate memory a
 `CbgridMemoryError` (a MemoryError). Both are `CbgridError` and have a code. A wrong type or dtype raises
 TypeError.
 
 **Threads.** Calls release the interpreter's lock. Any number of them may run at once, also on the same
 matrices, as long as no thread writes to those matrices. A call runs on the caller's thread alone, except for a
-product of a `Matrix` that is given more `threads`.
+product that is given more `threads`.
 """
 
 from __future__ import annotations
 
-import ctypes
 import operator
 import os
+from collections.abc import Callable
 from typing import Any, TypeVar
 
 import numpy as np
 import scipy.sparse
 
 from . import _lists
-from ._matrix import SEMIRINGS, Matrix, number_of
+from ._matrix import SEMIRINGS, Matrix, kept, number_of, read_matrix
 from ._library import (
-    FORMAT,
-    GRID,
     LIMIT,
     MIXED,
-    ORDER,
     SHAPES,
     SOURCE,
     TEST,
@@ -86,7 +80,6 @@ from ._library import (
     CbgridError,
     CbgridMemoryError,
     CbgridValueError,
-    Text,
     error,
     library,
 )
@@ -115,8 +108,9 @@ __all__ = [
 ]
 __version__ = library.cbgrid_version().decode("ascii")
 
-Sparse = TypeVar("Sparse")
-Vector = TypeVar("Vector")
+# A bound lets the type checker see inside what only a caller knows.
+Sparse = TypeVar("Sparse", bound=Any)
+Vector = TypeVar("Vector", bound=Any)
 
 _TESTS = {"below": 0, "above": 1, "equal": 2}
 _SIDES = ("rows", "columns")
@@ -145,19 +139,11 @@ def _semiring(name: str | None) -> int:
     return number_of("plus-times" if name is None else name)
 
 
-def _of_kept(matrix: Matrix, semiring: str | None, grid: int = 1) -> Sparse:
+def _of_kept(matrix: Matrix, semiring: str | None) -> Any:
     """A kept matrix, unless a call names another semiring than its own."""
-    _grid(grid)
     if semiring is not None and number_of(semiring) != number_of(matrix.semiring):
         raise error(MIXED)
     return matrix
-
-
-def _grid(side: int) -> int:
-    side = operator.index(side)
-    if not 1 <= side <= 6:
-        raise error(GRID)
-    return side
 
 
 def _source(vertex: int) -> int:
@@ -176,38 +162,25 @@ def _sources(vertices: Any) -> np.ndarray:
     return np.ascontiguousarray(vertices, np.uint32)
 
 
-def _lent(operands: tuple, **how: int) -> list:
-    """Passes operands as lists. An operand that is also the first one is converted only once."""
-    first = _lists.lend(operands[0], **how)
-    return [first, *[first if it is operands[0] else _lists.lend(it, **how) for it in operands[1:]]]
+def _kept(operands: tuple, number: int, **how: bool) -> list[Matrix]:
+    """Keeps operands over the semiring of a number. An operand that is also the first one is kept only once."""
+    first = kept(operands[0], number, **how)
+    return [first, *[first if it is operands[0] else kept(it, number, **how) for it in operands[1:]]]
 
 
-def _call(call: Any, before: tuple, operands: tuple, after: tuple, out: Any, **how: int) -> None:
-    """Makes a call. Only if the kernel finds that an operand isn't sorted, sorts copies and calls again."""
-    code = call(*before, *_lent(operands, **how), *after, out)
-    if code == ORDER:
-        code = call(*before, *_lent(operands, in_order=True, **how), *after, out)
-    if code:
-        raise error(code)
+def _result(made: Matrix, like: Any, turned: bool, number: int) -> Any:
+    """A result as a matrix of the class and dtype of `like`."""
+    matrix = _lists.matrix_of(made._lists(), like, turned)
+    if number in _SUMS:
+        _lists.check_signed(matrix.data)
+    return matrix
 
 
-def _run(call: Any, before: tuple, operands: tuple, after: tuple = (), **how: int) -> _lists.Answer:
-    """Makes a call whose result is a matrix."""
-    answer = _lists.Answer()
-    _call(call, before, operands, after, answer.columns, **how)
-    return answer
-
-
-def _placed(call: Any, semiring: int, grid: int, operands: tuple, after: tuple = (), unsigned: bool = False) -> Any:
+def _placed(call: Callable[..., Matrix], number: int, operands: tuple, unsigned: bool = False) -> Any:
     """Computes an operation, on the transposes if the first operand is a csr matrix."""
-    like = operands[0]
-    turned = like.format == "csr"
-    unsigned = unsigned or _UNSIGNED[semiring]
-    answer = _run(call, (semiring, _grid(grid)), operands, after, semiring=semiring, turned=turned, unsigned=unsigned)
-    made = _lists.matrix_of(answer, like, turned)
-    if semiring in _SUMS:
-        _lists.check_signed(made.data)
-    return made
+    turned = operands[0].format == "csr"
+    made = call(*_kept(operands, number, turned=turned, unsigned=unsigned or _UNSIGNED[number]))
+    return _result(made, operands[0], turned, number)
 
 
 def _check_pair(a: Any, b: Any) -> None:
@@ -222,7 +195,6 @@ def multiply(
     b: Any,
     semiring: str | None = None,
     mask: Any = None,
-    grid: int = 1,
     complement: bool = False,
     threads: int = 1,
 ) -> Sparse:
@@ -237,13 +209,10 @@ def multiply(
     mask : sparse matrix of the product's shape, optional
         Keeps only the entries of the product at places where the mask has an entry, whatever its value. A stored
         value that is the semiring's zero isn't an entry.
-    grid : int
-        The side of a grid, 1 to 6. It is checked and has no other effect.
     complement : bool
-        Whether to keep only the entries at places where the mask has none. Only if `a` is a `Matrix`.
+        Whether to keep only the entries at places where the mask has none.
     threads : int
-        How many threads may compute the product, 1 or more; at most 256 are used. More than 1 only if `a` is a `Matrix`.
-        The result is the same.
+        How many threads may compute the product, 1 or more; at most 256 are used. The result is the same.
 
     Returns
     -------
@@ -268,29 +237,21 @@ def multiply(
            [0, 9]])
     """
     if isinstance(a, Matrix):
-        return _of_kept(a, semiring, grid).multiply(b, mask, complement, threads=threads)
-    if complement:
-        raise TypeError("complement: a Matrix is wanted for a")
-    if operator.index(threads) != 1:
-        raise TypeError("threads: a Matrix is wanted for a")
+        return _of_kept(a, semiring).multiply(b, mask, complement, threads=threads)
     _check_pair(a, b)
     turned = a.format == "csr"
     operands: tuple = (b, a) if turned else (a, b)
-    call = library.cbgrid_multiply
     if mask is not None:
         _lists.check_matrix(mask, "mask")
         operands += (mask,)
-        call = library.cbgrid_multiply_masked
     number = _semiring(semiring)
     unsigned, product = _UNSIGNED[number], _TURNED[number] if turned else number
-    answer = _run(call, (product, _grid(grid)), operands, semiring=number, turned=turned, unsigned=unsigned)
-    made = _lists.matrix_of(answer, a, turned)
-    if number in _SUMS:
-        _lists.check_signed(made.data)
-    return made
+    left, right, *masks = _kept(operands, product, turned=turned, unsigned=unsigned)
+    made = left.multiply(right, masks[0] if masks else None, complement, threads=threads)
+    return _result(made, a, turned, number)
 
 
-def spmv(a: Any, x: Vector, semiring: str | None = None, grid: int = 1) -> Vector:
+def spmv(a: Any, x: Vector, semiring: str | None = None) -> Vector:
     """Product of a matrix and a vector.
 
     Parameters
@@ -300,7 +261,7 @@ def spmv(a: Any, x: Vector, semiring: str | None = None, grid: int = 1) -> Vecto
         With as many elements as `a` has columns. A sparse `x` costs the entries of `a` that its own entries meet. In
         the semirings whose zero is 2**64 - 1, an array has this value at each place without an entry, so its dtype
         must be uint64.
-    semiring, grid
+    semiring
         As in `multiply`.
 
     Returns
@@ -312,24 +273,30 @@ def spmv(a: Any, x: Vector, semiring: str | None = None, grid: int = 1) -> Vecto
     ------
     CbgridValueError, CbgridMemoryError, OverflowError
         As `multiply`.
+
+    Examples
+    --------
+    >>> import numpy as np, scipy.sparse, cbgrid
+    >>> a = scipy.sparse.csc_array(np.array([[1, 2], [0, 3]]))
+    >>> cbgrid.spmv(a, np.array([5, 7]))
+    array([19, 21])
     """
     if isinstance(a, Matrix):
-        return _of_kept(a, semiring, grid) @ x
+        return _of_kept(a, semiring) @ x
     _lists.check_matrix(a, "a")
     number = _semiring(semiring)
     is_array = isinstance(x, np.ndarray)
     _check_vector(a, x, number, is_array)
     turned, unsigned = a.format == "csr", _UNSIGNED[number]
     column = _lists.lend_array(x, turned, unsigned) if is_array else x
-    call, operands = (library.cbgrid_multiply, (column, a)) if turned else (library.cbgrid_vector, (a, column))
-    product = _TURNED[number] if turned else number
-    answer = _run(call, (product, _grid(grid)), operands, semiring=number, turned=turned, unsigned=unsigned)
-    places, values = _lists.column_of(answer, turned, a.dtype)
+    operands = (column, a) if turned else (a, column)
+    left, right = _kept(operands, _TURNED[number] if turned else number, turned=turned, unsigned=unsigned)
+    places, values = _lists.column_of(left.multiply(right)._lists(), turned, a.dtype)
     if number in _SUMS:
         _lists.check_signed(values)
     if not is_array:
         return _lists.column_like(x, a.shape[0], places, values)
-    made = np.zeros(a.shape[0], x.dtype)
+    made: Any = np.zeros(a.shape[0], x.dtype)
     if number in _INFINITE:
         made.fill(2**64 - 1)
     made[places] = values
@@ -349,27 +316,40 @@ def _check_vector(a: Any, x: Any, semiring: int, is_array: bool) -> None:
         raise error(SHAPES)
 
 
-def transpose(a: Sparse, semiring: str | None = None, grid: int = 1) -> Sparse:
+def transpose(a: Sparse, semiring: str | None = None) -> Sparse:
     """Transpose of a matrix, in the format of the matrix. Unlike scipy's, the transpose of a csc matrix is csc.
 
     Parameters
     ----------
     a : csc, csr or coo matrix or array of scipy.sparse, of int64 or uint64
-    semiring, grid
+    semiring
         As in `multiply`. Stored values that are the semiring's zero are dropped.
 
     Returns
     -------
     sparse matrix
         Of the class and dtype of `a`.
+
+    Raises
+    ------
+    CbgridValueError, CbgridMemoryError
+        As `multiply`.
+
+    Examples
+    --------
+    >>> import numpy as np, scipy.sparse, cbgrid
+    >>> a = scipy.sparse.csc_array(np.array([[1, 2], [0, 3]]))
+    >>> cbgrid.transpose(a).toarray()
+    array([[1, 0],
+           [2, 3]])
     """
     if isinstance(a, Matrix):
-        return _of_kept(a, semiring, grid).T
+        return _of_kept(a, semiring).T
     _lists.check_matrix(a, "a")
-    return _placed(library.cbgrid_transpose, _semiring(semiring), grid, (a,))
+    return _placed(lambda it: it.T, _semiring(semiring), (a,))
 
 
-def reduce(a: Sparse, by: str = "rows", semiring: str | None = None, grid: int = 1) -> Sparse:
+def reduce(a: Sparse, by: str = "rows", semiring: str | None = None) -> Sparse:
     """Sum of each row of a matrix, or of each column.
 
     Parameters
@@ -377,7 +357,7 @@ def reduce(a: Sparse, by: str = "rows", semiring: str | None = None, grid: int =
     a : csc, csr or coo matrix or array of scipy.sparse, of int64 or uint64
     by : {"rows", "columns"}
         What to add up.
-    semiring, grid
+    semiring
         As in `multiply`.
 
     Returns
@@ -385,19 +365,32 @@ def reduce(a: Sparse, by: str = "rows", semiring: str | None = None, grid: int =
     sparse matrix
         One column with as many rows as `a`, or one row with as many columns, of the class and dtype of `a`. A sum
         that is the semiring's zero isn't stored.
+
+    Raises
+    ------
+    CbgridValueError, CbgridMemoryError
+        As `multiply`.
+    ValueError
+        `by` is neither "rows" nor "columns".
+
+    Examples
+    --------
+    >>> import numpy as np, scipy.sparse, cbgrid
+    >>> a = scipy.sparse.csc_array(np.array([[1, 2], [0, 3]]))
+    >>> cbgrid.reduce(a, by="columns").toarray()
+    array([[1, 5]])
     """
     if isinstance(a, Matrix):
-        return _of_kept(a, semiring, grid).sums(by)
+        return _of_kept(a, semiring).sums(by)
     _lists.check_matrix(a, "a")
-    calls = library.cbgrid_row_sums, library.cbgrid_column_sums
     if by not in _SIDES:
         raise ValueError(f"by: one of {_SIDES} is wanted, not {by!r}")
     # a csr matrix is passed as its transpose, whose columns are its rows
-    side = _SIDES.index(by) ^ (a.format == "csr")
-    return _placed(calls[side], _semiring(semiring), grid, (a,))
+    side = _SIDES[_SIDES.index(by) ^ (a.format == "csr")]
+    return _placed(lambda it: it.sums(side), _semiring(semiring), (a,))
 
 
-def add(a: Sparse, b: Any, semiring: str | None = None, grid: int = 1) -> Sparse:
+def add(a: Sparse, b: Any, semiring: str | None = None) -> Sparse:
     """Element-wise sum of two matrices of one shape.
 
     The sum is the semiring's: the lesser of two values in ``min-plus``, the greater in ``max-min``, and the union in
@@ -405,42 +398,69 @@ def add(a: Sparse, b: Any, semiring: str | None = None, grid: int = 1) -> Sparse
 
     Parameters
     ----------
-    a, b, semiring, grid
+    a, b, semiring
         As in `multiply`.
 
     Returns
     -------
     sparse matrix
         Of the class and dtype of `a`.
+
+    Raises
+    ------
+    CbgridValueError, CbgridMemoryError, OverflowError
+        As `multiply`; the shapes must be the same.
+
+    Examples
+    --------
+    >>> import numpy as np, scipy.sparse, cbgrid
+    >>> a = scipy.sparse.csc_array(np.array([[1, 2], [0, 3]]))
+    >>> cbgrid.add(a, a, semiring="max-min").toarray()
+    array([[1, 2],
+           [0, 3]])
     """
     if isinstance(a, Matrix):
-        return _of_kept(a, semiring, grid) + b
+        return _of_kept(a, semiring) + b
     _check_pair(a, b)
-    return _placed(library.cbgrid_add, _semiring(semiring), grid, (a, b))
+    return _placed(operator.add, _semiring(semiring), (a, b))
 
 
-def times(a: Sparse, b: Any, semiring: str | None = None, grid: int = 1) -> Sparse:
+def times(a: Sparse, b: Any, semiring: str | None = None) -> Sparse:
     """Element-wise product of two matrices of one shape.
 
     Only places that both store can have an entry. In ``or-and`` it is the intersection.
 
     Parameters
     ----------
-    a, b, semiring, grid
+    a, b, semiring
         As in `multiply`.
 
     Returns
     -------
     sparse matrix
         Of the class and dtype of `a`.
+
+    Raises
+    ------
+    CbgridValueError, CbgridMemoryError, OverflowError
+        As `multiply`; the shapes must be the same.
+
+    Examples
+    --------
+    >>> import numpy as np, scipy.sparse, cbgrid
+    >>> a = scipy.sparse.csc_array(np.array([[1, 2], [0, 3]]))
+    >>> b = scipy.sparse.csc_array(np.array([[0, 5], [4, 0]]))
+    >>> cbgrid.times(a, b).toarray()
+    array([[ 0, 10],
+           [ 0,  0]])
     """
     if isinstance(a, Matrix):
-        return _of_kept(a, semiring, grid) * b
+        return _of_kept(a, semiring) * b
     _check_pair(a, b)
-    return _placed(library.cbgrid_times, _semiring(semiring), grid, (a, b))
+    return _placed(operator.mul, _semiring(semiring), (a, b))
 
 
-def prune(a: Sparse, test: str, value: int, semiring: str | None = None, grid: int = 1) -> Sparse:
+def prune(a: Sparse, test: str, value: int, semiring: str | None = None) -> Sparse:
     """A matrix without the entries whose value passes a test.
 
     Parameters
@@ -451,13 +471,26 @@ def prune(a: Sparse, test: str, value: int, semiring: str | None = None, grid: i
         Drops values that are strictly below `value`, strictly above it, or equal to it.
     value : int
         0 to 2**64 - 1. With "equal" and int64 it may be negative.
-    semiring, grid
+    semiring
         As in `multiply`.
 
     Returns
     -------
     sparse matrix
         Of the class and dtype of `a`.
+
+    Raises
+    ------
+    CbgridValueError, CbgridMemoryError
+        As `multiply`; also if there is no such test, or `value` is out of range.
+
+    Examples
+    --------
+    >>> import numpy as np, scipy.sparse, cbgrid
+    >>> a = scipy.sparse.csc_array(np.array([[1, 2], [0, 3]]))
+    >>> cbgrid.prune(a, "above", 2).toarray()
+    array([[1, 2],
+           [0, 0]])
     """
     number = _TESTS.get(test)
     if number is None:
@@ -466,16 +499,15 @@ def prune(a: Sparse, test: str, value: int, semiring: str | None = None, grid: i
     if isinstance(a, Matrix):
         if not 0 <= bound < 2**64:
             raise error(VALUE, "value not 0 to 2^64 - 1")
-        return _of_kept(a, semiring, grid).prune(number, bound)
+        return _of_kept(a, semiring)._pruned(number, bound)
     _lists.check_matrix(a, "a")
     is_equal = test == "equal"
     if not (-(2**63) if is_equal and a.dtype.kind == "i" else 0) <= bound < 2**64:
         raise error(VALUE, "value not 0 to 2^64 - 1")
-    after = (number, bound % 2**64)
-    return _placed(library.cbgrid_prune, _semiring(semiring), grid, (a,), after, unsigned=not is_equal)
+    return _placed(lambda it: it._pruned(number, bound % 2**64), _semiring(semiring), (a,), unsigned=not is_equal)
 
 
-def bfs(graph: Any, source: Any, grid: int = 1) -> Any:
+def bfs(graph: Any, source: Any) -> Any:
     """Levels of the vertices of a graph, by breadth-first search.
 
     Parameters
@@ -484,8 +516,6 @@ def bfs(graph: Any, source: Any, grid: int = 1) -> Any:
         Square. An entry at row i and column j is an edge from i to j, whatever its value. A stored 0 isn't an edge.
     source : int, or list or numpy array of integers
         The vertex to start from, counted from 0; or several, in any order, with repetitions.
-    grid
-        As in `multiply`.
 
     Returns
     -------
@@ -500,7 +530,7 @@ def bfs(graph: Any, source: Any, grid: int = 1) -> Any:
     Raises
     ------
     CbgridValueError
-        The graph isn't square, `source` isn't one of its vertices, or `grid` isn't 1 to 6.
+        The graph isn't square, or `source` isn't one of its vertices.
     CbgridMemoryError
         Out of memory.
 
@@ -515,17 +545,12 @@ def bfs(graph: Any, source: Any, grid: int = 1) -> Any:
            [0, 1, 0]])
     """
     if np.ndim(source):
-        return _walks(graph, source, grid, is_levels=True)
-    if isinstance(graph, Matrix):
-        _grid(grid)
-        vertices, levels = graph.walk(True, _source(source))
-        return vertices, levels.view(np.int64)
-    _lists.check_matrix(graph, "graph")
-    answer = _walk(library.cbgrid_levels, graph, source, grid, nonzero=True)
-    return answer.rows(), answer.values(np.dtype(np.int64))
+        return _walks(graph, source, is_levels=True)
+    vertices, levels = _graph(graph)._walk(True, _source(source))
+    return vertices, levels.view(np.int64)
 
 
-def relax(graph: Any, source: Any, grid: int = 1) -> Any:
+def relax(graph: Any, source: Any) -> Any:
     """Distances of the vertices of a graph from a source.
 
     Parameters
@@ -533,7 +558,7 @@ def relax(graph: Any, source: Any, grid: int = 1) -> Any:
     graph : csc, csr or coo matrix or array of scipy.sparse, of int64 or uint64
         Square. An entry at row i and column j is an edge from i to j, and its value is the length of the edge, which
         isn't negative. A stored 0 is an edge of length 0.
-    source, grid
+    source
         As in `bfs`.
 
     Returns
@@ -549,7 +574,7 @@ def relax(graph: Any, source: Any, grid: int = 1) -> Any:
     Raises
     ------
     CbgridValueError
-        The graph isn't square, a length is negative, `source` isn't one of its vertices, or `grid` isn't 1 to 6.
+        The graph isn't square, a length is negative, or `source` isn't one of its vertices.
     CbgridMemoryError
         Out of memory.
     OverflowError
@@ -563,15 +588,14 @@ def relax(graph: Any, source: Any, grid: int = 1) -> Any:
     (array([0, 1, 2], dtype=int32), array([0, 6, 2]))
     """
     if np.ndim(source):
-        return _walks(graph, source, grid, is_levels=False)
+        return _walks(graph, source, is_levels=False)
     if isinstance(graph, Matrix):
-        _grid(grid)
-        return graph.walk(False, _source(source))
+        return graph._walk(False, _source(source))
     _lists.check_matrix(graph, "graph")
-    answer = _walk(library.cbgrid_distances, graph, source, grid, nonzero=False)
-    distances = answer.values(graph.dtype)
+    vertices, distances = kept(graph, _MIN_PLUS, unsigned=True)._walk(False, _source(source))
+    distances = distances.view(graph.dtype)
     _lists.check_signed(distances)
-    return answer.rows(), distances
+    return vertices, distances
 
 
 def bfs_given(graph: Any, vertices: Any, numbers: Any) -> tuple[np.ndarray, np.ndarray]:
@@ -593,6 +617,13 @@ def bfs_given(graph: Any, vertices: Any, numbers: Any) -> tuple[np.ndarray, np.n
         For each of them the least sum of an initial value and the number of edges of a walk from its vertex. A vertex
         whose least sum is 2**64 - 1 or more counts as not reached.
 
+    Raises
+    ------
+    CbgridValueError
+        The graph isn't square, a vertex isn't one of it, a number isn't 0 to 2**64 - 1, or the lists differ in length.
+    CbgridMemoryError
+        Out of memory.
+
     Examples
     --------
     >>> import numpy as np, scipy.sparse, cbgrid
@@ -600,7 +631,7 @@ def bfs_given(graph: Any, vertices: Any, numbers: Any) -> tuple[np.ndarray, np.n
     >>> cbgrid.bfs_given(roads, [0, 1], [0, 5])
     (array([0, 1, 2], dtype=int32), array([0, 1, 1], dtype=uint64))
     """
-    reached, levels = _graph(graph).walk_given(True, vertices, numbers)
+    reached, levels = _graph(graph)._walk_given(True, vertices, numbers)
     return reached.astype(np.int32), levels
 
 
@@ -622,6 +653,14 @@ def relax_given(graph: Any, vertices: Any, numbers: Any) -> tuple[np.ndarray, np
         For each of them the least sum of an initial value and the length of a walk from its vertex. A vertex whose
         least sum is 2**64 - 1 or more counts as not reached.
 
+    Raises
+    ------
+    CbgridValueError
+        The graph isn't square, a length is negative, a vertex isn't one of it, a number isn't 0 to 2**64 - 1, or the
+        lists differ in length.
+    CbgridMemoryError
+        Out of memory.
+
     Examples
     --------
     >>> import numpy as np, scipy.sparse, cbgrid
@@ -632,25 +671,17 @@ def relax_given(graph: Any, vertices: Any, numbers: Any) -> tuple[np.ndarray, np
     if not isinstance(graph, Matrix):
         _lists.check_matrix(graph, "graph")
         graph = Matrix(graph, "min-plus")
-    reached, distances = graph.walk_given(False, vertices, numbers)
+    reached, distances = graph._walk_given(False, vertices, numbers)
     return reached.astype(np.int32), distances
 
 
-def _walk(call: Any, graph: Any, source: int, grid: int, nonzero: bool) -> _lists.Answer:
-    """Makes a call that searches a graph: over or-and if `nonzero`, which passes 1 for each value that isn't 0."""
-    before, after, semiring = (_grid(grid),), (_source(source),), _OR_AND if nonzero else _MIN_PLUS
-    how = {"semiring": semiring, "turned": False, "unsigned": not nonzero, "nonzero": nonzero}
-    return _run(call, before, (graph,), after, **how)
-
-
-def _walks(graph: Any, sources: Any, grid: int, is_levels: bool) -> Any:
+def _walks(graph: Any, sources: Any, is_levels: bool) -> Any:
     """The levels or distances from several sources, a row for each: of the kind of the graph."""
-    _grid(grid)
     vertices = _sources(sources)
     if isinstance(graph, Matrix):
-        return graph.walks(is_levels, vertices)
+        return graph._walks(is_levels, vertices)
     _lists.check_matrix(graph, "graph")
-    made = (_graph(graph) if is_levels else Matrix(graph, "min-plus")).walks(is_levels, vertices)
+    made = (_graph(graph) if is_levels else Matrix(graph, "min-plus"))._walks(is_levels, vertices)
     return made.to_scipy("csr", np.int64 if is_levels else graph.dtype)
 
 
@@ -659,7 +690,7 @@ def _graph(graph: Any) -> Matrix:
     if isinstance(graph, Matrix):
         return graph
     _lists.check_matrix(graph, "graph")
-    return Matrix(graph.astype(bool), "or-and")
+    return kept(graph, _OR_AND, nonzero=True)
 
 
 def parents(graph: Any, source: int) -> tuple[np.ndarray, np.ndarray]:
@@ -678,6 +709,13 @@ def parents(graph: Any, source: int) -> tuple[np.ndarray, np.ndarray]:
         The vertices that the source reaches, without itself, in ascending order.
     parents : numpy array of int64
         For each of them the least vertex that precedes it on a shortest path from the source.
+
+    Raises
+    ------
+    CbgridValueError
+        The graph isn't square, or `source` isn't one of its vertices.
+    CbgridMemoryError
+        Out of memory.
 
     Examples
     --------
@@ -705,6 +743,13 @@ def components(graph: Any) -> tuple[np.ndarray, np.ndarray]:
     components : numpy array of int64
         For each of them the least vertex of its component.
 
+    Raises
+    ------
+    CbgridValueError
+        The graph isn't square.
+    CbgridMemoryError
+        Out of memory.
+
     Examples
     --------
     >>> import numpy as np, scipy.sparse, cbgrid
@@ -728,6 +773,13 @@ def triangles(graph: Any) -> int:
     -------
     int
         At most 2**64 - 1.
+
+    Raises
+    ------
+    CbgridValueError
+        The graph isn't square.
+    CbgridMemoryError
+        Out of memory.
 
     Examples
     --------
@@ -764,6 +816,14 @@ def read(source: Any, semiring: str = "plus-times", format: str = "csc", dtype: 
         The text doesn't follow the profile of docs/FORMAT.md. The error has code 13 and the `line` of the first fault.
     OSError
         The file can't be read.
+
+    Examples
+    --------
+    >>> import numpy as np, scipy.sparse, cbgrid
+    >>> text = b"%%MatrixMarket matrix coordinate integer general\\n2 2 1\\n1 2 7\\n"
+    >>> cbgrid.read(text, dtype=np.int64).toarray()
+    array([[0, 7],
+           [0, 0]])
     """
     number = _semiring(semiring)
     dtype = np.dtype(dtype)
@@ -771,12 +831,9 @@ def read(source: Any, semiring: str = "plus-times", format: str = "csc", dtype: 
     if format not in ("csc", "csr", "coo"):
         raise TypeError(f"format: csc, csr or coo is wanted, not {format}")
     contents = _contents(source)
-    answer, line = _lists.Answer(), ctypes.c_uint64()
-    code = library.cbgrid_read(number, contents, len(contents), line, answer.columns)
-    if code:
-        raise error(code, line=line.value if code == FORMAT else None)
+    matrix = read_matrix(contents, number)
     like = (scipy.sparse.csc_array if format == "csc" else scipy.sparse.coo_array)((0, 0), dtype=dtype)
-    made = _lists.matrix_of(answer, like, turned=False)
+    made = _lists.matrix_of(matrix._lists(), like, turned=False)
     if number not in _SIGNED:
         _lists.check_signed(made.data)
     return made.tocsr() if format == "csr" else made
@@ -802,15 +859,25 @@ def text(matrix: Any, semiring: str | None = None) -> bytes:
     Returns
     -------
     bytes
+
+    Raises
+    ------
+    CbgridValueError, CbgridMemoryError
+        As `multiply`.
+
+    Examples
+    --------
+    >>> import numpy as np, scipy.sparse, cbgrid
+    >>> a = scipy.sparse.csc_array(np.array([[1, 2], [0, 3]]))
+    >>> print(cbgrid.text(a).decode(), end="")
+    %%MatrixMarket matrix coordinate integer general
+    2 2 3
+    1 1 1
+    1 2 2
+    2 2 3
     """
     if isinstance(matrix, Matrix):
         return _of_kept(matrix, semiring).text()
     _lists.check_matrix(matrix, "matrix")
     number = _semiring(semiring)
-    made = Text()
-    how = {"semiring": number, "turned": False, "unsigned": _UNSIGNED[number]}
-    _call(library.cbgrid_text, (number,), (matrix,), (), made, **how)
-    try:
-        return ctypes.string_at(made.bytes, made.len)
-    finally:
-        library.cbgrid_free_text(made)
+    return kept(matrix, number, unsigned=_UNSIGNED[number]).text()

@@ -17,7 +17,7 @@ from ._library import LENGTHS, LIMIT, ORDER, PLACE, TOO_LARGE, VALUE, Columns, e
 _DCSC, _CSC = 0, 1
 _SHORT = 1000  # elements: a shorter list is quicker to copy or sort than to share or check
 _NUMBERS = np.arange(_SHORT + 1, dtype=np.uint32)
-_from_buffer = c_char.from_buffer
+_from_buffer: Any = c_char.from_buffer  # an array has a buffer
 _INT32, _INT64 = np.dtype(np.int32), np.dtype(np.int64)
 _SIGNED = frozenset((_INT32, _INT64))
 _DTYPES = frozenset((_INT64, np.dtype(np.uint64)))
@@ -107,10 +107,8 @@ def _lend_lists(
     return lent
 
 
-def lend(
-    matrix: Any, semiring: int, turned: bool, unsigned: bool, nonzero: bool = False, in_order: bool = False
-) -> Columns:
-    """Passes a matrix, or its transpose if `turned`, as lists.
+def lend(matrix: Any, turned: bool, unsigned: bool, nonzero: bool = False, in_order: bool = False) -> Columns:
+    """Passes a matrix, or its transpose if `turned`, as lists: of columns or, if scipy lists the others, of rows.
 
     `unsigned` refuses negative values. `nonzero` passes 1 for each value that isn't 0. `in_order` sorts the entries and
     adds up duplicates; without it the kernel may find that they aren't sorted.
@@ -121,7 +119,9 @@ def lend(
     if form == "coo":
         return _lend_coordinates(matrix, turned, unsigned, nonzero, in_order)
     if form != ("csr" if turned else "csc"):
-        return _lend_transposed(matrix, semiring, turned, unsigned, nonzero, in_order)
+        lent = lend(matrix, not turned, unsigned, nonzero, in_order)
+        lent.by_rows = True
+        return lent
     if in_order:
         matrix = _checked(matrix).copy()
         matrix.sum_duplicates()
@@ -136,22 +136,6 @@ def lend(
         check_unsigned(values)
     rows, values = _placed(_index32(rows, nrows)), _ones(values) if nonzero else _placed(values)
     return _lend_lists(nrows, ncols, None, _placed(starts), rows, values)
-
-
-def _lend_transposed(
-    matrix: Any, semiring: int, turned: bool, unsigned: bool, nonzero: bool, in_order: bool
-) -> Columns:
-    """Passes a csr matrix by columns, or a csc matrix by rows if `turned`: the kernel transposes it."""
-    answer = Answer()
-    lent = lend(matrix, semiring, not turned, unsigned, nonzero, in_order)
-    code = library.cbgrid_transpose(semiring, 1, lent, answer.columns)
-    if code == ORDER and not in_order:
-        return _lend_transposed(matrix, semiring, turned, unsigned, nonzero, True)
-    if code:
-        raise error(code)
-    made = Columns.from_buffer_copy(answer.columns)
-    made.kept = (answer,)
-    return made
 
 
 def _ones(values: np.ndarray) -> np.ndarray:
@@ -280,7 +264,7 @@ class Answer:
 def _compressed_starts(answer: Answer) -> np.ndarray:
     """The starts of all columns, from those of the columns that have entries."""
     ncols, stored = answer.columns.ncols, answer.columns.columns_len
-    dtype = _INT32 if answer.columns.rows_len <= LIMIT else _INT64
+    dtype: Any = _INT32 if answer.columns.rows_len <= LIMIT else _INT64
     starts = answer.starts()
     if stored and stored == ncols:
         return starts.astype(dtype)
@@ -311,7 +295,7 @@ def _bare(like: Any, shape: tuple[int, int]) -> Any:
 
     It is a copy of the object: scipy's constructor checks all lists, which takes longer than a small call.
     """
-    kind = type(like)
+    kind: Any = type(like)
     made = kind.__new__(kind)
     made.__dict__.update(like.__dict__)
     if made.shape != shape:

@@ -10,7 +10,7 @@ import numpy as np
 import scipy.sparse
 
 from . import _lists
-from ._library import LENGTHS, LIMIT, ORDER, PLACE, SEMIRING, SHAPES, TEST, TOO_LARGE, VALUE, Text, error, library
+from ._library import FORMAT, LENGTHS, LIMIT, ORDER, PLACE, SEMIRING, SHAPES, TEST, TOO_LARGE, VALUE, How, Text, error, library
 
 # The semirings in the order of their numbers.
 _NAMES = (
@@ -104,6 +104,8 @@ class Matrix:
     """
 
     __slots__ = ("_at", "_number", "__weakref__")
+    _at: int | None
+    _number: int
 
     def __init__(self, source: Any, semiring: str | None = None) -> None:
         self._at = None
@@ -118,7 +120,7 @@ class Matrix:
         self._at = _kept(source, self._number)
 
     @classmethod
-    def _of(cls, at: int, number: int) -> Matrix:
+    def _of(cls, at: int | None, number: int) -> Matrix:
         made = cls.__new__(cls)
         made._at, made._number = at, number
         return made
@@ -134,6 +136,22 @@ class Matrix:
         shape : (int, int)
         semiring
             As in `Matrix`.
+
+        Returns
+        -------
+        Matrix
+
+        Raises
+        ------
+        CbgridValueError
+            Code 5 if the shape is too large, 6 if the lists differ in length, 8 if a row or a column is outside the shape, 9 if a
+            value isn't one of the semiring.
+
+        Examples
+        --------
+        >>> import cbgrid
+        >>> cbgrid.Matrix.from_triples([0, 0], [1, 1], [2, 3], (2, 2))[0, 1]
+        5
         """
         number = number_of(semiring)
         nrows, ncols = _sides(shape)
@@ -149,13 +167,18 @@ class Matrix:
             raise error(code)
         return cls._of(out.value, number)
 
+    def _give(self) -> int | None:
+        """The address of the kept matrix, which this object gives up."""
+        at, self._at = self._at, None
+        return at
+
     def __del__(self, free: Any = library.cbgrid_matrix_free) -> None:
         at = getattr(self, "_at", None)
         if at:
             self._at = None
             free(at)
 
-    def __reduce__(self):
+    def __reduce__(self) -> tuple:
         return _from_triples, (*self.to_triples(), self.shape, self.semiring)
 
     def __copy__(self) -> Matrix:
@@ -248,6 +271,7 @@ class Matrix:
         return self._made(library.cbgrid_matrix_extract, *lists)
 
     def _lists(self) -> _lists.Answer:
+        """A copy of the lists of the columns."""
         answer = _lists.Answer()
         code = library.cbgrid_matrix_columns(self._at, answer.columns)
         if code:
@@ -258,6 +282,31 @@ class Matrix:
         """The matrix as a csc_array, csr_array or coo_array of uint64 or int64.
 
         For int64 a value above 2**63 - 1 raises OverflowError.
+
+        Parameters
+        ----------
+        format : {"csc", "csr", "coo"}
+            csc and csr need an array as long as one of the sides; coo doesn't.
+        dtype : {numpy.uint64, numpy.int64}
+
+        Returns
+        -------
+        csc_array, csr_array or coo_array
+
+        Raises
+        ------
+        OverflowError
+            A value is above 2**63 - 1, and `dtype` is int64.
+        TypeError
+            There is no such format, or another dtype.
+
+        Examples
+        --------
+        >>> import numpy as np, cbgrid
+        >>> a = cbgrid.Matrix(np.array([[1, 2], [0, 3]]))
+        >>> a.to_scipy("csr", np.int64).toarray()
+        array([[1, 2],
+               [0, 3]])
         """
         dtype = np.dtype(dtype)
         _lists.check_dtype(dtype, "dtype")
@@ -273,14 +322,39 @@ class Matrix:
         return made
 
     def to_triples(self) -> tuple[np.ndarray, np.ndarray, np.ndarray]:
-        """The rows, the columns and the values of the entries, by column and then by row."""
+        """The rows, the columns and the values of the entries, by column and then by row.
+
+        Returns
+        -------
+        rows, columns, values : numpy arrays of one length, of int32, int32 and uint64
+
+        Examples
+        --------
+        >>> import numpy as np, cbgrid
+        >>> a = cbgrid.Matrix(np.array([[1, 2], [0, 3]]))
+        >>> [it.tolist() for it in a.to_triples()]
+        [[0, 0, 1], [0, 1, 1], [1, 2, 3]]
+        """
         answer = self._lists()
         starts = answer.starts()
         columns = answer.stored().repeat(starts[1:] - starts[:-1]) if len(starts) else answer.stored()
         return answer.rows(), columns, answer.values(_UINT64)
 
     def to_numpy(self) -> np.ndarray:
-        """The matrix as an array, with the semiring's zero at each place without an entry."""
+        """The matrix as an array, with the semiring's zero at each place without an entry.
+
+        Returns
+        -------
+        numpy array of uint64
+            Of the shape of the matrix. It takes memory for each place, not for each entry.
+
+        Examples
+        --------
+        >>> import numpy as np, cbgrid
+        >>> a = cbgrid.Matrix(np.array([[1, 2], [0, 3]]))
+        >>> a.to_numpy().tolist()
+        [[1, 2], [0, 3]]
+        """
         made = np.full(self.shape, self.zero, _UINT64)
         rows, columns, values = self.to_triples()
         made[rows, columns] = values
@@ -292,7 +366,28 @@ class Matrix:
         return self._made(library.cbgrid_matrix_transpose)
 
     def sums(self, by: str = "rows") -> Matrix:
-        """The sum of each row, in one column, or of each column, in one row. `by` is "rows" or "columns"."""
+        """The sum of each row, in one column, or of each column, in one row. `by` is "rows" or "columns".
+
+        Parameters
+        ----------
+        by : {"rows", "columns"}
+
+        Returns
+        -------
+        Matrix
+
+        Raises
+        ------
+        ValueError
+            `by` is another word.
+
+        Examples
+        --------
+        >>> import numpy as np, cbgrid
+        >>> a = cbgrid.Matrix(np.array([[1, 2], [0, 3]]))
+        >>> a.sums("columns").to_numpy().tolist()
+        [[1, 5]]
+        """
         calls = {"rows": library.cbgrid_matrix_row_sums, "columns": library.cbgrid_matrix_column_sums}
         if by not in calls:
             raise ValueError(f"by: one of {tuple(calls)} is wanted, not {by!r}")
@@ -306,6 +401,17 @@ class Matrix:
         axis : {None, 0, 1}
             None adds up all values; the sum of no values is the semiring's zero. 0 adds up each column and gives one
             row; 1 adds up each row and gives one column. Any other axis raises ValueError.
+
+        Returns
+        -------
+        int or Matrix
+
+        Examples
+        --------
+        >>> import numpy as np, cbgrid
+        >>> a = cbgrid.Matrix(np.array([[1, 2], [0, 3]]))
+        >>> a.sum()
+        6
         """
         if axis is not None:
             if axis not in (0, 1):
@@ -324,10 +430,26 @@ class Matrix:
         ----------
         region : {"lower", "upper", "diagonal", "off-diagonal"}
             The lower triangle (diagonal k and everything below it), the upper triangle (diagonal k and everything above
-            it), diagonal k, or everything but diagonal k. Any other name raises a CbgridValueError with code 3.
+            it), diagonal k, or everything but diagonal k. Any other name raises a CbgridValueError with code 2.
         k : int
             The number of a diagonal: 0 is the main diagonal, 1 the one above it, -1 the one below it. Any integer is
             allowed; a diagonal outside the matrix has no entries.
+
+        Returns
+        -------
+        Matrix
+
+        Raises
+        ------
+        CbgridValueError
+            Code 3 if there is no such region.
+
+        Examples
+        --------
+        >>> import numpy as np, cbgrid
+        >>> a = cbgrid.Matrix(np.array([[1, 2], [0, 3]]))
+        >>> a.select("off-diagonal").to_numpy().tolist()
+        [[0, 2], [0, 0]]
         """
         if region not in _REGIONS:
             raise error(TEST, f"region: one of {tuple(_REGIONS)} is wanted, not {region!r}")
@@ -335,11 +457,45 @@ class Matrix:
         return self._made(library.cbgrid_matrix_select, _REGIONS[region], diagonal)
 
     def tril(self, k: int = 0) -> Matrix:
-        """The entries on diagonal k and below it, as `scipy.sparse.tril`."""
+        """The entries on diagonal k and below it, as `scipy.sparse.tril`.
+
+        Parameters
+        ----------
+        k : int
+            As in `select`.
+
+        Returns
+        -------
+        Matrix
+
+        Examples
+        --------
+        >>> import numpy as np, cbgrid
+        >>> a = cbgrid.Matrix(np.array([[1, 2], [0, 3]]))
+        >>> a.tril().to_numpy().tolist()
+        [[1, 0], [0, 3]]
+        """
         return self.select("lower", k)
 
     def triu(self, k: int = 0) -> Matrix:
-        """The entries on diagonal k and above it, as `scipy.sparse.triu`."""
+        """The entries on diagonal k and above it, as `scipy.sparse.triu`.
+
+        Parameters
+        ----------
+        k : int
+            As in `select`.
+
+        Returns
+        -------
+        Matrix
+
+        Examples
+        --------
+        >>> import numpy as np, cbgrid
+        >>> a = cbgrid.Matrix(np.array([[1, 2], [0, 3]]))
+        >>> a.triu(1).to_numpy().tolist()
+        [[0, 2], [0, 0]]
+        """
         return self.select("upper", k)
 
     def apply(self, function: str, number: int = 0) -> Matrix:
@@ -350,11 +506,27 @@ class Matrix:
         function : {"constant", "sum", "left-product", "right-product", "row", "column"}
             `number` itself; the semiring's sum of the value and `number`; its product of `number` and the value, or of
             the value and `number`; the row of the entry, or its column, counted from 0. Any other name raises a
-            CbgridValueError with code 3.
+            CbgridValueError with code 2.
         number : int
             A value of the semiring, 0 to 2**64 - 1; any other raises a CbgridValueError with code 9. "row" and "column"
             ignore it, but raise the same error if the number of the last row or column isn't a value of the semiring:
             ``or-and`` has only 0 and 1.
+
+        Returns
+        -------
+        Matrix
+
+        Raises
+        ------
+        CbgridValueError
+            Code 3 or 9, as above.
+
+        Examples
+        --------
+        >>> import numpy as np, cbgrid
+        >>> a = cbgrid.Matrix(np.array([[1, 2], [0, 3]]))
+        >>> a.apply("sum", 10).to_numpy().tolist()
+        [[11, 12], [0, 13]]
         """
         if function not in _FUNCTIONS:
             raise error(TEST, f"function: one of {tuple(_FUNCTIONS)} is wanted, not {function!r}")
@@ -364,7 +536,19 @@ class Matrix:
         return self._made(library.cbgrid_matrix_apply, _FUNCTIONS[function], number)
 
     def diagonal(self) -> Matrix:
-        """The main diagonal, in one column with as many rows as the matrix has rows or columns, whichever are fewer."""
+        """The main diagonal, in one column with as many rows as the matrix has rows or columns, whichever are fewer.
+
+        Returns
+        -------
+        Matrix
+
+        Examples
+        --------
+        >>> import numpy as np, cbgrid
+        >>> a = cbgrid.Matrix(np.array([[1, 2], [0, 3]]))
+        >>> a.diagonal().to_numpy().tolist()
+        [[1], [3]]
+        """
         return self._made(library.cbgrid_matrix_diagonal)
 
     @classmethod
@@ -378,6 +562,21 @@ class Matrix:
             matrix that doesn't have one column raises a CbgridValueError with code 10.
         semiring
             As in `Matrix`.
+
+        Returns
+        -------
+        Matrix
+
+        Raises
+        ------
+        CbgridValueError
+            Code 10, as above.
+
+        Examples
+        --------
+        >>> import cbgrid
+        >>> cbgrid.Matrix.from_diagonal([5, 7]).to_numpy().tolist()
+        [[5, 0], [0, 7]]
         """
         if not isinstance(values, Matrix) and not scipy.sparse.issparse(values):
             if np.ndim(values) != 1:
@@ -393,6 +592,22 @@ class Matrix:
         rows, columns : lists or numpy arrays of integers
             Counted from 0, in any order, with repetitions. If the matrix doesn't have one of them, a CbgridValueError
             with code 8 says which list names it, and where. `a[rows, columns]` also takes slices and negative integers.
+
+        Returns
+        -------
+        Matrix
+
+        Raises
+        ------
+        CbgridValueError
+            Code 8, as above.
+
+        Examples
+        --------
+        >>> import numpy as np, cbgrid
+        >>> a = cbgrid.Matrix(np.array([[1, 2], [0, 3]]))
+        >>> a.extract([1, 0], [1]).to_numpy().tolist()
+        [[3], [2]]
         """
         nrows, ncols = self.shape
         return self._extracted(_numbers32(rows, nrows, "rows"), _numbers32(columns, ncols, "columns"))
@@ -403,8 +618,24 @@ class Matrix:
         Parameters
         ----------
         other : Matrix or scipy.sparse matrix, or numpy array of two dimensions
-            A Matrix over another semiring raises a CbgridValueError with code 16; a product with more than 2**31 - 1
+            A Matrix over another semiring raises a CbgridValueError with code 3; a product with more than 2**31 - 1
             rows or columns raises one with code 5.
+
+        Returns
+        -------
+        Matrix
+
+        Raises
+        ------
+        CbgridValueError
+            Code 5 or 3, as above.
+
+        Examples
+        --------
+        >>> import numpy as np, cbgrid
+        >>> a = cbgrid.Matrix(np.array([[1, 2], [0, 3]]))
+        >>> a.kron(np.array([[1, 10]])).to_numpy().tolist()
+        [[1, 10, 2, 20], [0, 0, 3, 30]]
         """
         operand = self._wanted(other, "other")
         return self._made(library.cbgrid_matrix_kron, operand._at)
@@ -419,7 +650,23 @@ class Matrix:
             Where the part begins, counted from 0. If it ends beyond this matrix, a CbgridValueError with code 8 is
             raised.
         part : Matrix or scipy.sparse matrix, or numpy array of two dimensions
-            A Matrix over another semiring raises a CbgridValueError with code 16.
+            A Matrix over another semiring raises a CbgridValueError with code 3.
+
+        Returns
+        -------
+        Matrix
+
+        Raises
+        ------
+        CbgridValueError
+            Code 8 or 3, as above.
+
+        Examples
+        --------
+        >>> import numpy as np, cbgrid
+        >>> a = cbgrid.Matrix(np.array([[1, 2], [0, 3]]))
+        >>> a.assign(0, 0, np.array([[9]])).to_numpy().tolist()
+        [[9, 2], [0, 3]]
         """
         corner = operator.index(row), operator.index(column)
         operand = self._wanted(part, "part")
@@ -434,7 +681,23 @@ class Matrix:
         ----------
         mask : Matrix or scipy.sparse matrix, or numpy array of two dimensions
             Its values don't matter. A mask of another shape raises a CbgridValueError with code 10, and a Matrix over
-            another semiring one with code 16.
+            another semiring one with code 3.
+
+        Returns
+        -------
+        Matrix
+
+        Raises
+        ------
+        CbgridValueError
+            Code 10 or 3, as above.
+
+        Examples
+        --------
+        >>> import numpy as np, cbgrid
+        >>> a = cbgrid.Matrix(np.array([[1, 2], [0, 3]]))
+        >>> a.exclude(np.array([[1, 0], [0, 0]])).to_numpy().tolist()
+        [[0, 2], [0, 3]]
         """
         operand = self._wanted(mask, "mask")
         return self._made(library.cbgrid_matrix_exclude, operand._at)
@@ -460,10 +723,21 @@ class Matrix:
         replace : bool
             Whether the entries of this matrix at places that aren't allowed are dropped.
 
+        Returns
+        -------
+        Matrix
+
         Raises
         ------
         CbgridValueError
-            Code 10 if the shapes differ, code 16 if the semirings differ.
+            Code 10 if the shapes differ, code 3 if the semirings differ.
+
+        Examples
+        --------
+        >>> import numpy as np, cbgrid
+        >>> a = cbgrid.Matrix(np.array([[1, 2], [0, 3]]))
+        >>> a.update(a, accumulate=True).to_numpy().tolist()
+        [[2, 4], [0, 6]]
         """
         written = self._wanted(new, "new")
         kept = None if mask is None else self._wanted(mask, "mask")
@@ -473,10 +747,25 @@ class Matrix:
     def power(self, factors: int) -> Matrix:
         """The power with this many factors, 1 or more, multiplied from the left. `a ** n` is the same.
 
+        Parameters
+        ----------
+        factors : int
+
+        Returns
+        -------
+        Matrix
+
         Raises
         ------
         CbgridValueError
-            Code 3 if there are no factors, or more than 2**32 - 1; code 11 if the matrix isn't square.
+            Code 2 if there are no factors, or more than 2**32 - 1; code 11 if the matrix isn't square.
+
+        Examples
+        --------
+        >>> import numpy as np, cbgrid
+        >>> a = cbgrid.Matrix(np.array([[1, 2], [0, 3]]))
+        >>> a.power(2).to_numpy().tolist()
+        [[1, 8], [0, 9]]
         """
         factors = operator.index(factors)
         if not 0 < factors < 2**32:
@@ -494,6 +783,22 @@ class Matrix:
         axis : {1, 0}
             1 counts the entries of each row: the edges that leave a vertex. 0 counts those of each column: the edges
             that lead to it. Any other axis raises ValueError.
+
+        Returns
+        -------
+        Matrix
+
+        Raises
+        ------
+        ValueError
+            `axis` is another number.
+
+        Examples
+        --------
+        >>> import numpy as np, cbgrid
+        >>> a = cbgrid.Matrix(np.array([[1, 2], [0, 3]]))
+        >>> a.degrees().to_numpy().tolist()
+        [[2], [1]]
         """
         if axis not in (0, 1):
             raise ValueError(f"axis: 0 or 1 is wanted, not {axis!r}")
@@ -522,14 +827,15 @@ class Matrix:
     def __matmul__(self, other: Any) -> Any:
         if isinstance(other, np.ndarray) and other.ndim == 1:
             return self._by_array(other)
-        return self._pair(library.cbgrid_matrix_multiply, other)
+        operand = self._operand(other)
+        return NotImplemented if operand is None else self.multiply(operand)
 
     def _by_array(self, x: np.ndarray) -> np.ndarray:
         """The product with an array of one dimension, as an array."""
         if len(x) != self.shape[1]:
             raise error(SHAPES)
         column = Matrix(whole_numbers(x, "x").reshape(-1, 1), self.semiring)
-        return self._made(library.cbgrid_matrix_vector, column._at).to_numpy()[:, 0]
+        return self.multiply(column).to_numpy()[:, 0]
 
     def __rmatmul__(self, other: Any) -> Any:
         operand = self._operand(other)
@@ -561,24 +867,44 @@ class Matrix:
         `transpose_right` this matrix or the other one is transposed first.
 
         The product is computed by up to `threads` threads, 1 or more, of which at most 256 are used; the result is the
-        same. One thread computes a product of transposes without a mask.
+        same.
+
+        Parameters
+        ----------
+        other, mask : Matrix or scipy.sparse matrix, or numpy array of two dimensions
+        complement : bool
+            Whether to keep the places where the mask has no entry.
+        transpose_left, transpose_right : bool
+            Whether this matrix, or the other one, is transposed first.
+        threads : int
+            How many threads may compute the product.
+
+        Returns
+        -------
+        Matrix
+
+        Raises
+        ------
+        CbgridValueError
+            Code 10 if the shapes don't agree, code 3 if the semirings differ.
+
+        Examples
+        --------
+        >>> import numpy as np, cbgrid
+        >>> a = cbgrid.Matrix(np.array([[1, 2], [0, 3]]))
+        >>> a.multiply(a, transpose_left=True).to_numpy().tolist()
+        [[1, 2], [2, 13]]
         """
         threads = operator.index(threads)
         if threads < 1:
             raise ValueError(f"threads: 1 or more is wanted, not {threads}")
-        count = min(threads, 2**32 - 1)
         operand = self._wanted(other, "b")
-        if mask is None:
-            if transpose_left or transpose_right:
-                return self._made(
-                    library.cbgrid_matrix_multiply_turned, bool(transpose_left), operand._at, bool(transpose_right)
-                )
-            return self._made(library.cbgrid_matrix_multiply_threads, operand._at, count)
-        left, right = self.T if transpose_left else self, operand.T if transpose_right else operand
-        kept = self._wanted(mask, "mask")
-        if complement:
-            return left._made(library.cbgrid_matrix_multiply_outside_threads, right._at, kept._at, count)
-        return left._made(library.cbgrid_matrix_multiply_masked_threads, right._at, kept._at, count)
+        kept = None if mask is None else self._wanted(mask, "mask")
+        if complement and kept is None:
+            raise TypeError("complement: a mask is wanted")
+        covered = None if kept is None else kept._at
+        how = How(covered, bool(complement), bool(transpose_left), bool(transpose_right), min(threads, 2**32 - 1))
+        return self._made(library.cbgrid_matrix_multiply, operand._at, how)
 
     def _wanted(self, other: Any, name: str) -> Matrix:
         operand = self._operand(other)
@@ -586,21 +912,21 @@ class Matrix:
             raise TypeError(f"{name}: a Matrix or a matrix of scipy.sparse is wanted, not {type(other).__name__}")
         return operand
 
-    def prune(self, test: int, bound: int) -> Matrix:
+    def _pruned(self, test: int, bound: int) -> Matrix:
         return self._made(library.cbgrid_matrix_prune, test, bound)
 
-    def walk(self, is_levels: bool, source: int) -> tuple[np.ndarray, np.ndarray]:
+    def _walk(self, is_levels: bool, source: int) -> tuple[np.ndarray, np.ndarray]:
         """The vertices that a source reaches, and their levels or distances."""
         call = library.cbgrid_matrix_levels if is_levels else library.cbgrid_matrix_distances
         rows, _columns, values = self._made(call, source, number=1).to_triples()
         return rows, values
 
-    def walks(self, is_levels: bool, sources: np.ndarray) -> Matrix:
+    def _walks(self, is_levels: bool, sources: np.ndarray) -> Matrix:
         """The levels or distances from several sources, over min-plus: a row for each source."""
         call = library.cbgrid_matrix_levels_from if is_levels else library.cbgrid_matrix_distances_from
         return self._made(call, sources.ctypes.data, len(sources), number=1).T
 
-    def walk_given(self, is_levels: bool, vertices: Any, numbers: Any) -> tuple[np.ndarray, np.ndarray]:
+    def _walk_given(self, is_levels: bool, vertices: Any, numbers: Any) -> tuple[np.ndarray, np.ndarray]:
         """The vertices that are reached from initial values, and their levels or distances from these."""
         call = library.cbgrid_matrix_levels_given if is_levels else library.cbgrid_matrix_distances_given
         column = np.zeros(len(vertices), np.uint32)
@@ -609,17 +935,74 @@ class Matrix:
         return rows, values
 
     def parents(self, source: int) -> tuple[np.ndarray, np.ndarray]:
-        """The vertices that a source reaches, without itself, and the parent of each."""
+        """The vertices that a source reaches, without itself, and the parent of each.
+
+        Parameters
+        ----------
+        source : int
+            The vertex to start from, counted from 0.
+
+        Returns
+        -------
+        vertices, parents : numpy arrays of int32 and uint64
+
+        Raises
+        ------
+        CbgridValueError
+            Code 11 if the matrix isn't square, 12 if the source isn't a vertex, 16 if the semiring isn't ``or-and``.
+
+        Examples
+        --------
+        >>> import numpy as np, cbgrid
+        >>> roads = cbgrid.Matrix(np.array([[0, 1, 1], [0, 0, 0], [0, 1, 0]]), "or-and")
+        >>> [it.tolist() for it in roads.parents(0)]
+        [[1, 2], [0, 0]]
+        """
         rows, _columns, values = self._made(library.cbgrid_matrix_parents, source, number=1).to_triples()
         return rows, values
 
     def components(self) -> tuple[np.ndarray, np.ndarray]:
-        """The vertices that have entries, and the least vertex of the component of each."""
+        """The vertices that have entries, and the least vertex of the component of each.
+
+        Returns
+        -------
+        vertices, components : numpy arrays of int32 and uint64
+
+        Raises
+        ------
+        CbgridValueError
+            Code 11 if the matrix isn't square, 16 if the semiring isn't ``or-and``.
+
+        Examples
+        --------
+        >>> import numpy as np, cbgrid
+        >>> roads = cbgrid.Matrix(np.array([[0, 1, 1], [0, 0, 0], [0, 1, 0]]), "or-and")
+        >>> [it.tolist() for it in roads.components()]
+        [[0, 1, 2], [0, 0, 0]]
+        """
         rows, _columns, values = self._made(library.cbgrid_matrix_components, number=1).to_triples()
         return rows, values
 
     def triangles(self) -> int:
-        """The number of triangles of the graph."""
+        """The number of triangles of the graph.
+
+        Returns
+        -------
+        int
+            At most 2**64 - 1.
+
+        Raises
+        ------
+        CbgridValueError
+            Code 11 if the matrix isn't square, 16 if the semiring isn't ``or-and``.
+
+        Examples
+        --------
+        >>> import numpy as np, cbgrid
+        >>> roads = cbgrid.Matrix(np.array([[0, 1, 1], [0, 0, 0], [0, 1, 0]]), "or-and")
+        >>> roads.triangles()
+        1
+        """
         count = ctypes.c_uint64()
         code = library.cbgrid_matrix_triangles(self._at, _byref(count))
         if code:
@@ -627,7 +1010,19 @@ class Matrix:
         return count.value
 
     def text(self) -> bytes:
-        """The Matrix Market text."""
+        """The Matrix Market text.
+
+        Returns
+        -------
+        bytes
+
+        Examples
+        --------
+        >>> import numpy as np, cbgrid
+        >>> a = cbgrid.Matrix(np.array([[1, 2], [0, 3]]))
+        >>> a.text().splitlines()[1]
+        b'2 2 3'
+        """
         made = Text()
         code = library.cbgrid_matrix_text(self._at, made)
         if code:
@@ -688,14 +1083,12 @@ def _from_triples(rows: Any, columns: Any, values: Any, shape: Any, semiring: st
     return Matrix.from_triples(rows, columns, values, shape, semiring)
 
 
-def _kept_again(matrix: Matrix) -> int:
+def _kept_again(matrix: Matrix) -> int | None:
     """The address of a copy, which is the transpose of the transpose."""
-    turned = matrix.T.T
-    at, turned._at = turned._at, None
-    return at
+    return matrix.T.T._give()
 
 
-def _kept(source: Any, number: int) -> int:
+def _kept(source: Any, number: int) -> int | None:
     """Keeps a matrix of scipy or numpy, and returns its address."""
     if isinstance(source, np.ndarray):
         source = _coordinates(source, number)
@@ -712,15 +1105,32 @@ def _kept(source: Any, number: int) -> int:
         else:
             shown.indptr, shown.indices, shown.data = source.indptr, source.indices, values
         source = shown
-    call = library.cbgrid_matrix_of_rows if form == "csr" else library.cbgrid_matrix_of_columns
-    out = _void()
-    how = {"semiring": number, "turned": form == "csr", "unsigned": False}
-    code = call(number, _lists.lend(source, **how), _byref(out))
-    if code == ORDER:
-        code = call(number, _lists.lend(source, in_order=True, **how), _byref(out))
+    return kept(source, number)._give()
+
+
+def kept(matrix: Any, number: int, turned: bool = False, unsigned: bool = False, nonzero: bool = False) -> Matrix:
+    """Keeps a matrix of scipy, or its transpose if `turned`, over the semiring of a number (`_lists.lend`).
+
+    Only if the kernel finds that its entries aren't sorted, sorts a copy and calls again.
+    """
+    code, out = ORDER, _void()
+    for in_order in (False, True):
+        if code == ORDER:
+            lent = _lists.lend(matrix, turned, unsigned, nonzero, in_order)
+            call = library.cbgrid_matrix_of_rows if lent.by_rows else library.cbgrid_matrix_of_columns
+            code = call(number, lent, _byref(out))
     if code:
         raise error(code)
-    return out.value
+    return Matrix._of(out.value, number)
+
+
+def read_matrix(text: bytes, number: int) -> Matrix:
+    """Reads the matrix of a Matrix Market text over the semiring of a number."""
+    line, out = ctypes.c_uint64(), _void()
+    code = library.cbgrid_matrix_read(number, text, len(text), line, _byref(out))
+    if code:
+        raise error(code, line=line.value if code == FORMAT else None)
+    return Matrix._of(out.value, number)
 
 
 def _coordinates(array: np.ndarray, number: int) -> Any:

@@ -1,5 +1,0 @@
-use Rattle.cb_ffi.proofs.Calls.{call_of}
-use Rattle.cb_ffi.proofs.cbgrid_kernel_text.Goals as goal
-
-pub returns : goal.returns
-returns c = call_of _ _ _ _ _ _ c.text_of_lists.ensures c.put.ensures.ok c.put.ensures.refused
