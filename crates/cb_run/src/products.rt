@@ -1,9 +1,10 @@
 //! Products of a matrix over a grid and a vector that is spread over its ranks.
-ghost use Rattle.std.specs.Prelude.{◌≡◌, ◌*◌, IfOk, IfErr};
+ghost use Rattle.std.specs.Prelude.{◌≡◌, ◌⊎◌, ◌*◌, IfOk, IfErr, OnOk, OnErr};
 ghost use Rattle.cb_matrix.specs.Sparse.{Sparse};
 ghost use Rattle.cb_matrix.specs.Values.{product};
 ghost use Rattle.cb_grid_plans.specs.VectorPlans.{column};
 ghost use Rattle.cb_placement.specs.Answers.{over_grid};
+ghost use Rattle.cb_crews.specs.Crews.{workers_of};
 ghost use Rattle.cb_engines.specs.EngineRuns.{IsEngineFault, IsTraceOf, LostWhereRefused};
 ghost use Rattle.cb_vectors.specs.SpreadVectors.{HasBoth, MultipliesVectors};
 ghost use Rattle.cb_run.specs.VectorOrders.{IsOrderedProduct, IsOrderedProductLoss, IsProductLoss};
@@ -62,7 +63,8 @@ pub fn multiply_vector<S: Semiring + Send + Sync, R: Threads + Wait + Sync>(
     multiply_vector_by(rt, alloc, engine, &mut no_crew, grid, plan, matrix, vector)
 }
 
-/// Does the same by a crew, if there is one with a worker for each rank and the engine is one of threads without a trace.
+/// Does the same by a crew, if there is one with a worker for each rank and the engine is one of threads without a trace. The
+/// crew keeps its workers, or loses all of them if a rank is gone.
 pub(crate) fn multiply_vector_by<S: Semiring + Send + Sync, J: Naming, R: Threads + Wait + Sync>(
     rt: &R,
     alloc: Global,
@@ -80,6 +82,8 @@ pub(crate) fn multiply_vector_by<S: Semiring + Send + Sync, J: Naming, R: Thread
     ensures same { IfOk result (λ m. m.matrix ≡ matrix) }
     ensures order { IfOk result (λ m. IsOrderedProduct S.arithmetic engine.entry grid.now.side plan.now matrix.matrix vector.now m.product m.refusals.items) }
     ensures trace { IfOk result (λ m. IsTraceOf engine.entry plan.now m.trace) }
+    ensures workers { OnOk result (workers_of crew.new ≡ workers_of crew.old) }
+    ensures spent { OnErr result ((workers_of crew.new ≡ workers_of crew.old) ⊎ (workers_of crew.new ≡ 0)) }
     ensures fault { IfErr result (IsEngineFault engine.entry (grid.now.side * grid.now.side)) }
     ensures lost { IfErr result (IsOrderedProductLoss S.arithmetic engine.entry grid.now.side plan.now matrix.matrix vector.now) }
 {
