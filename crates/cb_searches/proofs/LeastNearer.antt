@@ -10,7 +10,7 @@ use Rattle.cb_matrix.proofs.Pairs.{AllPairs-head, AllPairs-tail}
 use Rattle.cb_dcsc.specs.Columns.{in_column, rows_of}
 use Rattle.cb_dcsc.proofs.Lookup.{rows_inside, column_ascends}
 use Rattle.cb_searches.specs.Walks.{IsLeast, steps, infinite, column_shape}
-use Rattle.cb_searches.specs.BottomUp.{AreLevelNumbers}
+use Rattle.cb_searches.specs.BreadthFirst.{AreLevelNumbers}
 use Rattle.cb_searches.specs.Parents.{IsParent, IsLeastParent, AreParents, first_below, first_nearer}
 use Rattle.cb_searches.proofs.ColumnEdges.{edge_row, row_edge, column_listed}
 use Rattle.cb_searches.proofs.WalkCosts.{walk_more, steps_more}

@@ -11,7 +11,8 @@ pub mod VertexColumns
 -- ShortWalks: for each walk a short one that costs no more. NumbersByRound: numbers that near the least costs, round by
 -- round. TurnedProducts: a round is the product of the turned matrix. TakenNumbers, LowerEntries, NumberColumns,
 -- FallenNumbers: the numbers known so far, those that fall, and their column. RelaxedEdges: the edges from one vertex.
--- TurnedUnits: levels on the transposed matrix. BottomUpRounds: rounds from the bottom up. LevelNumbers: numbers that are
+-- TurnedUnits: levels on the transposed matrix. LevelRounds: levels up to a number of rounds. SearchRounds: the
+-- vertices that a round of a breadth-first search reaches. LevelNumbers: numbers that are
 -- levels. LeastNearer: parents are nearer vertices. ParentFacts: who has a parent.
 -- ColumnsBesides: columns of distances, side by side. NearestGiven: what is nearest from initial values. GivenEntries: these
 -- are taken one after another.
@@ -24,7 +25,8 @@ pub mod NumberColumns
 pub mod FallenNumbers
 pub mod RelaxedEdges
 pub mod TurnedUnits
-pub mod BottomUpRounds
+pub mod LevelRounds
+pub mod SearchRounds
 pub mod LevelNumbers
 pub mod LeastNearer
 pub mod ParentFacts

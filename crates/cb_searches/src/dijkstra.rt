@@ -19,7 +19,7 @@ ghost use Rattle.std.specs.BinaryHeap.{heap_items};
 use crate::numbers::Numbers;
 use cb_dcsc::Block;
 use cb_matrix::Entry;
-use cb_semirings::MinPlus;
+use cb_semirings::{MinPlus, Semiring};
 use std::alloc::{AllocError, Global};
 use std::cmp::Ordering;
 use std::collections::BinaryHeap;
@@ -162,7 +162,7 @@ fn relax_edges(
 /// The edges from a vertex: a column of the block. If all columns before it have entries too, its number is its place
 /// among them; otherwise a binary search finds it.
 #[inline(always)]
-fn edges_of(edges: &Block<MinPlus>, vertex: u32) -> (&[u32], &[u64])
+pub(crate) fn edges_of<S: Semiring>(edges: &Block<S>, vertex: u32) -> (&[u32], &[u64])
     ensures rows { result.0.now ≡ rows_of (in_column vertex edges.now.entries) }
     ensures values { result.1.now ≡ values_of (in_column vertex edges.now.entries) }
 {

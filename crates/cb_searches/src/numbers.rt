@@ -68,6 +68,11 @@ impl Numbers {
         }
     }
 
+    /// Whether the numbers are in a list, so that a look-up takes constant time.
+    pub(crate) fn is_list(&self) -> bool {
+        matches!(self, Numbers::Dense(_))
+    }
+
     /// Gives a vertex a number. In constant time in a list, and logarithmic in a tree. If memory is refused, the numbers
     /// stay as they were.
     pub fn set(&mut self, vertex: u32, number: u64) -> Result<(), AllocError>

@@ -4,18 +4,15 @@
 //! read the edges in order, which is fastest while most vertices are a few edges away. Then the remaining vertices
 //! [settle](crate::dijkstra) one after another, so long walks take no further rounds.
 //!
-//! Levels are found [from the bottom up](crate::bottom_up), in the block as it is. If that takes many rounds, they are
-//! found as distances are.
+//! Levels are found by a [breadth-first search](crate::breadth_first).
 ghost use Rattle.std.specs.Prelude.{◌≡◌, ℕ, ◌<◌, IfOk};
-ghost use Rattle.cb_semirings.specs.Tables.{min_plus};
+ghost use Rattle.cb_semirings.specs.Tables.{min_plus, or_and};
 ghost use Rattle.cb_matrix.specs.Sparse.{Sparse, IsMatrix};
+ghost use Rattle.cb_matrix.specs.Operations.{transposed};
 ghost use Rattle.cb_searches.specs.Walks.{AreDistances, AreLevels};
-ghost use Rattle.cb_searches.specs.Numbers.{number_at, AreNumbers};
 ghost use Rattle.cb_searches.specs.Searches.{HasEdges, IsWholeSearch};
-ghost use Rattle.cb_searches.specs.BottomUp.{AreLevelNumbers};
 
-use crate::bottom_up::bottom_up;
-use crate::numbers::Numbers;
+use crate::breadth_first::{breadth_first, level_numbers};
 use crate::searches::{Search, column_shape};
 use cb_dcsc::Block;
 use cb_matrix::Matrix;
@@ -53,11 +50,10 @@ pub fn distances(
 /// result is a column; unreachable vertices aren't stored. This is the breadth-first search of Buluç and Gilbert, The
 /// Combinatorial BLAS (IJHPCA 2011), section 5.
 ///
-/// The search goes [from the bottom up](crate::bottom_up), without a transpose. A round costs a look at each column that
-/// has entries, and at the rows of each column without a level, up to the first that a round before reached. It gives up
-/// after two looks for each entry in rounds that reach fewer than four times as many vertices as the one before, or at
-/// once if there are more than four vertices for each entry. Then the levels are found as [`distances`] are, with edges
-/// that weigh 1 each, at the cost given there.
+/// The search goes [from the bottom up](crate::breadth_first) at first, without a transpose. A round costs a look at each
+/// column that has entries, and at the rows of each column without a level, up to the first that a round before reached.
+/// After two looks for each entry in rounds that reach fewer than twice as many vertices as the one before, or at once if
+/// there are more than four vertices for each entry, the block is transposed, and the search goes on as [`levels_by`].
 pub fn levels(
     alloc: Global,
     graph: &Block<OrAnd>,
@@ -72,25 +68,26 @@ pub fn levels(
     known.column(alloc, column_shape(graph.shape()))
 }
 
-/// The level of each vertex, from the bottom up or, if that is given up, by edges that weigh 1 each.
-pub(crate) fn level_numbers(
+/// The level of each vertex from a source, as [`levels`] finds them, in the graph of a square block, given its transpose
+/// too. A caller who searches a graph more than once makes the transpose once.
+///
+/// Each round goes in the [direction](crate::breadth_first) in which it has less to read. It costs the edges from the
+/// vertices that the round before reached, or a look at each column that has entries, and at the rows of each column
+/// without a level, up to the first that is reached.
+pub fn levels_by(
     alloc: Global,
     graph: &Block<OrAnd>,
+    turned: &Block<OrAnd>,
     source: u32,
-) -> Result<Numbers, AllocError>
+) -> Result<Matrix<MinPlus>, AllocError>
     requires square { graph.now.shape.rows ≡ graph.now.shape.cols }
     requires source { source < graph.now.shape.rows }
-    ensures numbers { IfOk result (AreNumbers graph.now.shape.rows) }
-    ensures levels { IfOk result (λ known. AreLevelNumbers graph.now source (number_at known)) }
+    requires turned { turned.now ≡ transposed or_and graph.now }
+    ensures levels { IfOk result (AreLevels graph.now source) }
+    ensures matrix { IfOk result (IsMatrix min_plus) }
 {
-    if let Some(known) = bottom_up(alloc, graph, source)? {
-        return Ok(known);
-    }
-    let shape = graph.shape();
-    prove_eq!(shape.rows(), shape.cols());
-    let edges = unit_edges(alloc, graph)?;
-    let search = search_by_edges(alloc, &edges, source)?;
-    Ok(search.into_numbers())
+    let known = breadth_first(alloc, graph, turned, source)?;
+    known.column(alloc, column_shape(graph.shape()))
 }
 
 /// The edges of a graph: the transposed block.

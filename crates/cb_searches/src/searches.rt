@@ -59,13 +59,6 @@ impl Search {
         &self.fell
     }
 
-    /// The numbers so far.
-    pub(crate) fn into_numbers(self) -> Numbers
-        ensures { result ≡ self.known }
-    {
-        self.known
-    }
-
     /// One more round, given what it reaches: lower numbers are taken over.
     pub fn advance(self, alloc: Global, reached: &Matrix<MinPlus>) -> Result<Self, AllocError>
         requires round { HasMadeRounds (λ a. reached.now ≡ product min_plus (transposed min_plus a) self.fell) self }

@@ -1,0 +1,7 @@
+use Rattle.std.proofs.Common.{ℕ}
+use Rattle.cb_searches.specs.BreadthFirst.{IsReaching}
+use Rattle.cb_searches.proofs.breadth_first.rounds_up.Given as goal
+
+-- so many rounds are made
+abbrev pub invariant-loop-rounds : goal.invariant-loop-rounds
+invariant-loop-rounds l = (source : ℕ) → IsReaching l.graph source 0 l.fn.known l.fn.queue.items 0 → IsReaching l.graph source l.rounds l.known l.queue.items l.start
