@@ -179,6 +179,15 @@ marked_none z sums marks groups zeros none none_too limit long groups_long = rec
   no_group = λ n e. all_same 0 marks none n;
 }
 
+-- a row whose sum isn't zero is marked
+pub known_mark : (z : ℕ) (sums marks groups : List ℕ) → AreMarked z sums marks groups → (i : ℕ) → get_or sums i z ≢ z → mark_of marks i ≡ 1
+known_mark z sums marks groups m i some =
+    let below = bit_at-lt (get_or marks (i / 64) 0) (i % 64) in
+    ⊎_elim
+    (λ (e : mark_of marks i ≡ 0). absurd (some (m.unmarked i e)))
+    (λ (e : mark_of marks i ≡ 0 → ⊥). let ne : mark_of marks i ≢ 0 = e in omega arith)
+    (cases_eq (mark_of marks i) 0)
+
 -- a row is marked, and so is the word with its mark
 module _ (z : ℕ) (sums marks groups marks' groups' : List ℕ) (row x : ℕ) (m : AreMarked z sums marks groups) (l : row < length sums)
     (long : length marks' ≡ length marks) (here : mark_of marks' row ≡ 1) (others : (i : ℕ) → i ≢ row → mark_of marks' i ≡ mark_of marks i) (words : (k : ℕ) → k ≢ row / 64 → get_or marks' k 0 ≡ get_or marks k 0)

@@ -74,10 +74,11 @@ pub(crate) fn is_marked(words: &[u64], row: usize) -> bool
     (words[row / 64] >> (row % 64)) % 2 == 1
 }
 
-/// Marks a row, and the word with its mark. A row that is marked already costs one look, since many products have the same
-/// row.
+/// Marks a row, and the word with its mark. A row that is known to be marked costs nothing, and one that is marked already
+/// one look, since many products have the same row.
 #[inline(always)]
-pub(crate) fn mark_row(marks: &mut [u64], groups: &mut [u64], row: usize)
+pub(crate) fn mark_row(marks: &mut [u64], groups: &mut [u64], row: usize, is_known: bool)
+    requires known { IsTrue is_known → mark_of marks.old row ≡ 1 }
     requires room { row / 64 < length marks.old }
     requires groups_room { row / 64 / 64 < length groups.old }
     requires no_group { (n : ℕ) → mark_of groups.old n ≡ 0 → slice_index marks.old n ≡ 0 }
@@ -89,7 +90,7 @@ pub(crate) fn mark_row(marks: &mut [u64], groups: &mut [u64], row: usize)
     ensures group { mark_of groups.new (row / 64) ≡ 1 }
     ensures other_groups { (n : ℕ) → n ≢ row / 64 → mark_of groups.new n ≡ mark_of groups.old n }
 {
-    if is_marked(marks, row) {
+    if is_known || is_marked(marks, row) {
         return;
     }
     mark(marks, row);

@@ -192,7 +192,8 @@ impl<S: Semiring> SparseAccumulator<S> {
     }
 }
 
-/// Adds a column, times a factor if there is one, to the sums of its rows, and marks the rows.
+/// Adds a column, times a factor if there is one, to the sums of its rows, and marks the rows. A sum that isn't zero has its
+/// mark already, so only the others are looked up: where many products have the same row, that is one in many.
 #[inline(always)]
 fn add_entries<S: Semiring>(
     sums: &mut [u64],
@@ -214,8 +215,9 @@ fn add_entries<S: Semiring>(
 {
     for n in 0..rows.len() {
         let row = rows[n] as usize;
-        sums[row] = S::add(sums[row], scaled::<S>(values[n], scale));
-        mark_row(marks, groups, row);
+        let sum = sums[row];
+        sums[row] = S::add(sum, scaled::<S>(values[n], scale));
+        mark_row(marks, groups, row, sum != S::zero());
     }
 }
 
@@ -246,8 +248,9 @@ fn add_entries_outside<S: Semiring>(
         if is_marked(excluded, row) {
             continue;
         }
-        sums[row] = S::add(sums[row], scaled::<S>(values[n], scale));
-        mark_row(marks, groups, row);
+        let sum = sums[row];
+        sums[row] = S::add(sum, scaled::<S>(values[n], scale));
+        mark_row(marks, groups, row, sum != S::zero());
     }
 }
 

@@ -1,12 +1,12 @@
-use Rattle.std.proofs.Common.{◌≡◌, ◌<◌, true, false, length, sym, refl, subst, ◌∙◌, arith, get_or}
-use Rattle.std.specs.Prelude.{◌==◌}
+use Rattle.std.proofs.Common.{◌≡◌, ◌<◌, true, false, length, sym, refl, ap, subst, ◌∙◌, arith, get_or}
+use Rattle.std.specs.Prelude.{◌==◌, not}
 use Rattle.std.proofs.lemmas.Bool.{eq-eqb, ne_eqb, false≢true}
-use Rattle.std.proofs.lemmas.List.{length-set}
+use Rattle.std.proofs.lemmas.List.{length-set, get_or_default}
 use Rattle.std.proofs.lemmas.List.Elements.{All-get_or, All-set}
 use Rattle.cb_semirings.specs.Arithmetic.{IsValue}
 use Rattle.cb_product.specs.Marks.{mark_of}
 use Rattle.cb_product.proofs.RowValues.{nth_product}
-use Rattle.cb_product.proofs.MarkBits.{marked_more}
+use Rattle.cb_product.proofs.MarkBits.{marked_more, known_mark}
 use Rattle.cb_product.proofs.MarkedRows.{outside_added, outside_skipped, outside_all_added}
 use Rattle.cb_product.proofs.sparse_accumulator.add_entries_outside.Goals as goal
 
@@ -25,6 +25,14 @@ add-requires-clause-left_is_value g c =
     let lr = All-get_or (λ i. i < length c.args.sums.now) c.args.rows.now c.loop-n.n 0 c.loop-n-test.true c.requires.inside in
     let long = inv.long in
     All-get_or (IsValue g.S.Semiring.arithmetic) c.loop-n.sums _ 0 (omega arith) inv.accumulator.values
+
+pub mark_row-requires-clause-known : goal.mark_row-requires-clause-known
+mark_row-requires-clause-known g c = λ known.
+    let inv = c.loop-n.invariant in
+    let lr = All-get_or (λ i. i < length c.args.sums.now) c.args.rows.now c.loop-n.n 0 c.loop-n-test.true c.requires.inside in
+    let long = inv.long in
+    let same = get_or_default c.loop-n.sums (get_or c.args.rows.now c.loop-n.n 0) g.S.Semiring.arithmetic.zero 0 (omega arith) in
+    known_mark g.S.Semiring.arithmetic.zero c.loop-n.sums c.loop-n.marks c.loop-n.groups inv.accumulator.marked (get_or c.args.rows.now c.loop-n.n 0) (λ e. false≢true (sym (ap not (eq-eqb _ c.zero.result (sym same ∙ e ∙ sym c.zero.ensures))) ∙ known))
 
 pub mark_row-requires-clause-room : goal.mark_row-requires-clause-room
 mark_row-requires-clause-room g c =
