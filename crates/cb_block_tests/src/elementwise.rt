@@ -233,6 +233,124 @@ fn columns() -> &'static [Case<'static>] {
     COLUMNS
 }
 
+/// A column with 48 even rows. In a column that is far longer than the other, rows are searched: here if the other has two.
+const EVEN: Given<'static> = (
+    (100, 1),
+    entries![
+        (0, 0, 1),
+        (2, 0, 2),
+        (4, 0, 3),
+        (6, 0, 4),
+        (8, 0, 5),
+        (10, 0, 6),
+        (12, 0, 7),
+        (14, 0, 8),
+        (16, 0, 9),
+        (18, 0, 10),
+        (20, 0, 11),
+        (22, 0, 12),
+        (24, 0, 13),
+        (26, 0, 14),
+        (28, 0, 15),
+        (30, 0, 16),
+        (32, 0, 17),
+        (34, 0, 18),
+        (36, 0, 19),
+        (38, 0, 20),
+        (40, 0, 21),
+        (42, 0, 22),
+        (44, 0, 23),
+        (46, 0, 24),
+        (48, 0, 25),
+        (50, 0, 26),
+        (52, 0, 27),
+        (54, 0, 28),
+        (56, 0, 29),
+        (58, 0, 30),
+        (60, 0, 31),
+        (62, 0, 32),
+        (64, 0, 33),
+        (66, 0, 34),
+        (68, 0, 35),
+        (70, 0, 36),
+        (72, 0, 37),
+        (74, 0, 38),
+        (76, 0, 39),
+        (78, 0, 40),
+        (80, 0, 41),
+        (82, 0, 42),
+        (84, 0, 43),
+        (86, 0, 44),
+        (88, 0, 45),
+        (90, 0, 46),
+        (92, 0, 47),
+        (94, 0, 48)
+    ],
+);
+
+/// The first and the last of these rows; one between two of them, and one of them; one past them; one more of them.
+const ENDS: Given<'static> = ((100, 1), entries![(0, 0, 10), (94, 0, 20)]);
+
+const MIDDLE: Given<'static> = ((100, 1), entries![(41, 0, 10), (60, 0, 20)]);
+
+const PAST: Given<'static> = ((100, 1), entries![(95, 0, 10)]);
+
+const THREE: Given<'static> = ((100, 1), entries![(1, 0, 10), (60, 0, 20), (94, 0, 30)]);
+
+const FAR_LONGER: &[Case<'static>] = &[
+    (
+        Call::Times,
+        &[EVEN, ENDS],
+        ((100, 1), entries![(0, 0, 10), (94, 0, 960)]),
+    ),
+    (
+        Call::Times,
+        &[ENDS, EVEN],
+        ((100, 1), entries![(0, 0, 10), (94, 0, 960)]),
+    ),
+    (
+        Call::Times,
+        &[EVEN, MIDDLE],
+        ((100, 1), entries![(60, 0, 620)]),
+    ),
+    (
+        Call::Times,
+        &[MIDDLE, EVEN],
+        ((100, 1), entries![(60, 0, 620)]),
+    ),
+    (Call::Times, &[EVEN, PAST], ((100, 1), &[])),
+    (Call::Times, &[PAST, EVEN], ((100, 1), &[])),
+    (
+        Call::Times,
+        &[EVEN, THREE],
+        ((100, 1), entries![(60, 0, 620), (94, 0, 1440)]),
+    ),
+    (
+        Call::Times,
+        &[THREE, EVEN],
+        ((100, 1), entries![(60, 0, 620), (94, 0, 1440)]),
+    ),
+    (
+        Call::Mask,
+        &[EVEN, ENDS],
+        ((100, 1), entries![(0, 0, 1), (94, 0, 48)]),
+    ),
+    (
+        Call::Mask,
+        &[MIDDLE, EVEN],
+        ((100, 1), entries![(60, 0, 20)]),
+    ),
+    (
+        Call::Exclude,
+        &[MIDDLE, EVEN],
+        ((100, 1), entries![(41, 0, 10)]),
+    ),
+];
+
+fn far_longer() -> &'static [Case<'static>] {
+    FAR_LONGER
+}
+
 /// Those that are dropped are strictly below, strictly above, or equal.
 const PRUNED: &[Case<'static>] = &[
     (
@@ -279,6 +397,7 @@ fn sums_products_and_masks(rt: HostRuntime) {
 #[test]
 fn columns_of_both_blocks_and_of_one(rt: HostRuntime) {
     assert!(rt; are_right(rt.alloc(), columns()));
+    assert!(rt; are_right(rt.alloc(), far_longer()));
 }
 
 #[test]
@@ -293,5 +412,6 @@ fn refused_memory_is_reported(rt: HostRuntime) {
     assert!(rt; are_right_or_refused(rt.alloc(), sums_and_products()));
     assert!(rt; are_right_or_refused(rt.alloc(), masks()));
     assert!(rt; are_right_or_refused(rt.alloc(), columns()));
+    assert!(rt; are_right_or_refused(rt.alloc(), far_longer()));
     assert!(rt; are_right_or_refused(rt.alloc(), pruned()));
 }

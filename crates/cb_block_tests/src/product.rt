@@ -78,6 +78,18 @@ const PRODUCTS: &[Case<'static>] = &[
         ],
         ((3, 1), entries![(1, 0, 5), (2, 0, 1)]),
     ),
+    // a sum that is zero, until a third product is added
+    (
+        Call::Multiply,
+        &[
+            (
+                (2, 3),
+                entries![(0, 0, 1), (0, 1, u64::MAX), (1, 1, 7), (0, 2, 5)],
+            ),
+            ((3, 1), entries![(0, 0, 1), (1, 0, 1), (2, 0, 1)]),
+        ],
+        ((2, 1), entries![(0, 0, 5), (1, 0, 7)]),
+    ),
     // the largest sides, which cost no more than the entries
     (
         Call::Multiply,

@@ -3,7 +3,7 @@ use Rattle.std.proofs.Common.{◌≡◌, ◌≢◌, ℕ, zero, suc, ◌+◌, ◌
 use Rattle.std.specs.Prelude.{All, not, ◌==◌, nat_lt}
 use Rattle.std.specs.Int.{from_bool}
 use Rattle.std.proofs.lemmas.Bool.Decides.{nat_tests}
-use Rattle.std.proofs.lemmas.Bool.{cases_Bool, cases_eq, cond-true, cond-false, eq-eqb, ne_eqb, eqb-true, false≢true}
+use Rattle.std.proofs.lemmas.Bool.{cases_Bool, cases_eq, cases_lt, cond-true, cond-false, eq-eqb, ne_eqb, eqb-true, false≢true}
 use Rattle.std.proofs.lemmas.List.{take_more, take_all, drop_more, drop_all, append-nil, append_assoc, get_or-take, length-take-le}
 use Rattle.std.proofs.lemmas.List.Elements.{All-nil, All-push, All-weaker, All-get_or, All-from_get_or}
 use Rattle.cb_semirings.specs.Arithmetic.{Arithmetic, IsValue, IsSemiring}
@@ -254,3 +254,32 @@ pub lower_room : (b : Bool) (lx ly x y dx dy old new : ℕ) (capacity capacity' 
     → new + ((lx - (x + dx)) + (ly - (y + dy))) ≤ capacity'
 lower_room true lx ly x y dx dy old new capacity capacity' l m xe ye room len same = omega arith
 lower_room false lx ly x y dx dy old new capacity capacity' l m xe ye room len same = omega arith
+
+-- ---- entries of one column alone that are dropped
+module _ (s : Arithmetic) (laws : IsSemiring s) (f : ℕ → ℕ → ℕ) (ls lvs rs rvs : List ℕ) (left : IsSparseColumn s ls lvs) (right : IsSparseColumn s rs rvs) where
+  -- several of the left column, all before the next of the right one
+  left_skipped : ((v : ℕ) → IsValue s v → f v s.zero ≡ s.zero) → (n x y : ℕ) (ks ws : List ℕ) → x + n ≤ length ls → (y < length rs → (k : ℕ) → x ≤ k → k < x + n → get_or ls k 0 < get_or rs y 0)
+      → IsJoinedTo s f ls lvs rs rvs x y ks ws → IsJoinedTo s f ls lvs rs rvs (x + n) y ks ws
+  left_skipped dropped zero x y ks ws within before h = let e : x + 0 ≡ x = omega arith in rw e h
+  left_skipped dropped (suc n) x y ks ws within before h =
+      let l : x < length ls = omega arith in
+      let next = left_more s laws f ls lvs rs rvs left right x y ks ws false l (λ m. before m x (omega arith) (omega arith)) (dropped (get_or lvs x 0) (value_here s ls lvs left x l)) h in
+      let same : IsJoinedTo s f ls lvs rs rvs (x + 1) y ks ws = subst (λ vs. IsJoinedTo s f ls lvs rs rvs (x + 1) y ks vs) (append-nil ws) (subst (λ xs. IsJoinedTo s f ls lvs rs rvs (x + 1) y xs (ws ++ [])) (append-nil ks) next) in
+      let e : (x + 1) + n ≡ x + suc n = omega arith in
+      subst (λ k. IsJoinedTo s f ls lvs rs rvs k y ks ws) e (left_skipped dropped n (x + 1) y ks ws (omega arith) (λ m k a b. before m k (omega arith) (omega arith)) same)
+
+  pub left_passed_over : ((v : ℕ) → IsValue s v → f v s.zero ≡ s.zero) → (x y x' : ℕ) (ks ws : List ℕ) → x < x' → x' ≤ length ls → get_or ls (x' - 1) 0 < get_or rs y 0
+      → IsJoinedTo s f ls lvs rs rvs x y ks ws → IsJoinedTo s f ls lvs rs rvs x' y ks ws
+  left_passed_over dropped x y x' ks ws more within below h =
+      let e : x + (x' - x) ≡ x' = omega arith in
+      subst (λ k. IsJoinedTo s f ls lvs rs rvs k y ks ws) e (left_skipped dropped (x' - x) x y ks ws (omega arith) (λ m k a b. ⊎_elim
+      (λ (c : k < x' - 1). let up : get_or ls k 0 < get_or ls (x' - 1) 0 = left.ascending k (x' - 1) 0 c (omega arith) in omega arith)
+      (λ (c : x' - 1 ≤ k). let same : k ≡ x' - 1 = omega arith in let w = ap (λ i. get_or ls i 0) same in omega arith)
+      (cases_lt k (x' - 1))) h)
+
+module _ (s : Arithmetic) (laws : IsSemiring s) (f : ℕ → ℕ → ℕ) (ls lvs rs rvs : List ℕ) (left : IsSparseColumn s ls lvs) (right : IsSparseColumn s rs rvs) where
+  -- several of the right column
+  pub right_passed_over : ((v : ℕ) → IsValue s v → f s.zero v ≡ s.zero) → (x y y' : ℕ) (ks ws : List ℕ) → y < y' → y' ≤ length rs → get_or rs (y' - 1) 0 < get_or ls x 0
+      → IsJoinedTo s f ls lvs rs rvs x y ks ws → IsJoinedTo s f ls lvs rs rvs x y' ks ws
+  right_passed_over dropped x y y' ks ws more within below h =
+      turned s (λ p q. f q p) rs rvs ls lvs y' x ks ws (left_passed_over s laws (λ p q. f q p) rs rvs ls lvs right left dropped y x y' ks ws more within below (turned s f ls lvs rs rvs x y ks ws h))

@@ -3,7 +3,8 @@
 pub mod ReplacedColumn
 pub mod ReplacedColumns
 -- For this crate alone. ColumnJoins: two columns joined, entry by entry. MatrixJoins: two matrices joined, column by column.
--- PrunedValues: the values of a pruned matrix.
+-- PrunedValues: the values of a pruned matrix. Searches: a binary search in a part of some rows.
 mod ColumnJoins
 mod MatrixJoins
 mod PrunedValues
+mod Searches

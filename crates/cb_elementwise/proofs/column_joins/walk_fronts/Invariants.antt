@@ -1,6 +1,6 @@
 use Rattle.std.proofs.Common.{◌+◌, ◌-◌, ◌≤◌, length, vec_len, vec_capacity}
 use Rattle.cb_elementwise.specs.JoinedColumns.{IsJoinedTo}
-use Rattle.cb_elementwise.proofs.column_joins.join_fronts.Given as goal
+use Rattle.cb_elementwise.proofs.column_joins.walk_fronts.Given as goal
 
 abbrev pub invariant-loop-x : goal.invariant-loop-x
 invariant-loop-x g l = record {

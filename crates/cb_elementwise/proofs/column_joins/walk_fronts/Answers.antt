@@ -2,7 +2,7 @@ use Rattle.std.proofs.Common.{◌+◌, get_or, sym, ap, arith, subst}
 use Rattle.std.specs.Prelude.{nat_lt}
 use Rattle.cb_semirings.specs.Arithmetic.{IsValue}
 use Rattle.cb_elementwise.proofs.ColumnJoins.{joined_none, same_next, lower_next, lower_room, value_here}
-use Rattle.cb_elementwise.proofs.column_joins.join_fronts.Goals as goal
+use Rattle.cb_elementwise.proofs.column_joins.walk_fronts.Goals as goal
 
 pub loop-x-init : goal.loop-x-init
 loop-x-init g c = record {
