@@ -12,20 +12,19 @@ use Rattle.cb_matrix.proofs.Pairs.{AllPairs-nil, AllPairs-cons, AllPairs-head, A
 use Rattle.cb_matrix.proofs.Places.{is_at-parts, value_at-append_left, value_at-append_right}
 use Rattle.cb_matrix.proofs.Made.{same_matrix_of}
 use Rattle.cb_matrix.proofs.Equal.{matrix_is}
-use Rattle.cb_searches.specs.Walks.{column_shape, AreDistances}
 use Rattle.cb_searches.specs.SeveralSources.{column_at, in_column_of}
 
 abbrev IsStored : Entry → Type 0
 IsStored e = e.value ≢ min_plus.zero
 
--- the entries of the columns below c of a matrix of this shape, of which each has the distances from its source
-pub record HasColumns (a : Sparse) (extent : Extent) (source : ℕ → ℕ) (c : ℕ) (es : List Entry) : Type 0 where
+-- the entries of the columns below c of a matrix of this shape, of which each is what it is to be
+pub record HasColumns (extent : Extent) (is_column : ℕ → Sparse → Type 0) (c : ℕ) (es : List Entry) : Type 0 where
   pub ascending : AllPairs IsBefore es
   pub inside : All (IsInside extent) es
   pub values : All (λ e. IsValue min_plus e.value) es
   pub not_zero : All IsStored es
   pub before : All (λ e. e.column < c) es
-  pub done : (j : ℕ) → j < c → AreDistances a (source j) (column_at (record { shape = extent; entries = es }) j)
+  pub done : (j : ℕ) → j < c → is_column j (column_at (record { shape = extent; entries = es }) j)
 
 -- no entry is in another column than those that are there
 pub not_in : (i j c : ℕ) (es : List Entry) → c ≤ j → All (λ e. e.column < c) es → All (λ e. is_at i j e ≡ false) es
@@ -75,27 +74,26 @@ moved_ascends c (e ∷ es) h p =
 in_one : (extent : Extent) (es : List Entry) → extent.cols ≡ 1 → All (IsInside extent) es → All (λ e. e.column ≡ 0) es
 in_one extent es one h = All-weaker (IsInside extent) (λ e. e.column ≡ 0) (λ e k. let b = k.1 in omega arith) es h
 
-module _ (a : Sparse) (extent : Extent) (source : ℕ → ℕ) where
+module _ (extent : Extent) (is_column : ℕ → Sparse → Type 0) where
   -- one more column
-  pub column_more : (c : ℕ) (old new : List Entry) (column : Sparse) → c < extent.cols → extent.rows ≡ a.shape.rows → new ≡ old ++ map (in_column_of c) column.entries → IsMatrix min_plus column
-      → AreDistances a (source c) column → HasColumns a extent source c old → HasColumns a extent source (c + 1) new
-  column_more c old new column l rows new_is is far h =
+  pub column_more : (c : ℕ) (old new : List Entry) (column : Sparse) → c < extent.cols → column.shape ≡ record { rows = extent.rows; cols = 1 } → new ≡ old ++ map (in_column_of c) column.entries → IsMatrix min_plus column
+      → is_column c column → HasColumns extent is_column c old → HasColumns extent is_column (c + 1) new
+  column_more c old new column l shape new_is is here h =
       let es = column.entries in
       let moved = map (in_column_of c) es in
-      let shape : column.shape ≡ column_shape a = far.shape in
       let zeros : All (λ e. e.column ≡ 0) es = in_one column.shape es (ap (λ (x : Extent). x.cols) shape) is.inside in
-      let height : column.shape.rows ≡ a.shape.rows = ap (λ (x : Extent). x.rows) shape in
+      let height : column.shape.rows ≡ extent.rows = ap (λ (x : Extent). x.rows) shape in
       let both : (P : Entry → Type 0) → All P old → All (λ e. P (in_column_of c e)) es → All P new = λ P p q. subst (All P) (sym new_is) (All-append P old moved p (All-map P (in_column_of c) es q)) in
       record {
         ascending = subst (AllPairs IsBefore) (sym new_is) (AllPairs-append IsBefore old moved h.ascending (moved_ascends c es zeros is.ascending)
             (All-weaker (λ e. e.column < c) (λ d. All (IsBefore d) moved) (λ d k. All-map (IsBefore d) (in_column_of c) es (All-weaker (λ e. e.column ≡ 0) (λ e. IsBefore d (in_column_of c e)) (λ e _. inl k) es zeros)) old h.before));
-        inside = both (IsInside extent) h.inside (All-weaker (IsInside column.shape) (λ e. IsInside extent (in_column_of c e)) (λ e k. let r = k.0 in (omega (arith, rows, height, r), l)) es is.inside);
+        inside = both (IsInside extent) h.inside (All-weaker (IsInside column.shape) (λ e. IsInside extent (in_column_of c e)) (λ e k. let r = k.0 in (omega (arith, height, r), l)) es is.inside);
         values = both (λ e. IsValue min_plus e.value) h.values is.values;
         not_zero = both IsStored h.not_zero is.not_zero;
         before = both (λ e. e.column < c + 1) (All-weaker (λ e. e.column < c) (λ e. e.column < c + 1) (λ e k. omega arith) old h.before) (All-weaker (λ e. e.column ≡ 0) (λ e. c < c + 1) (λ e _. omega arith) es zeros);
         done = λ j m. ⊎_elim
-            (λ (k : j < c). subst (AreDistances a (source j)) (sym (earlier j k)) (h.done j k))
-            (λ (k : c ≤ j). let e : j ≡ c = omega arith in subst (λ n. AreDistances a (source n) (column_at (record { shape = extent; entries = new }) n)) (sym e) (subst (AreDistances a (source c)) (sym own) far))
+            (λ (k : j < c). subst (is_column j) (sym (earlier j k)) (h.done j k))
+            (λ (k : c ≤ j). let e : j ≡ c = omega arith in subst (λ n. is_column n (column_at (record { shape = extent; entries = new }) n)) (sym e) (subst (is_column c) (sym own) here))
             (cases_lt j c);
       }
     where
@@ -109,9 +107,8 @@ module _ (a : Sparse) (extent : Extent) (source : ℕ → ℕ) where
       own_value : (i : ℕ) → value_at min_plus.zero new i c ≡ at min_plus column i 0
       own_value i =
           value_new i c ∙ value_at-append_right min_plus.zero old (map (in_column_of c) column.entries) i c (not_in i c c old (omega arith) h.before)
-          ∙ moved_value i c column.entries (in_one column.shape column.entries (ap (λ (x : Extent). x.cols) far.shape) is.inside)
+          ∙ moved_value i c column.entries (in_one column.shape column.entries (ap (λ (x : Extent). x.cols) shape) is.inside)
 
       own : column_at (record { shape = extent; entries = new }) c ≡ column
       own =
-          let shape : column.shape ≡ record { rows = extent.rows; cols = 1 } = far.shape ∙ ap (λ n. record { rows = n; cols = 1 }) (sym rows) in
           sym (matrix_is min_plus min_plus_is_semiring column (record { rows = extent.rows; cols = 1 }) (λ i _. value_at min_plus.zero new i c) is shape (λ i j _ m. let z : j ≡ 0 = omega arith in ap (at min_plus column i) z ∙ sym (own_value i)))

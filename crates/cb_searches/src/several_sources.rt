@@ -2,12 +2,13 @@
 //!
 //! The block is transposed once, for all of them.
 ghost use Rattle.std.specs.Prelude.{◌≡◌, ℕ, ◌<◌, ◌≤◌, ◌++◌, length, map, slice_index, All, IfOk, OnOk};
-ghost use Rattle.cb_semirings.specs.Tables.{min_plus};
+ghost use Rattle.cb_semirings.specs.Tables.{min_plus, or_and};
 ghost use Rattle.cb_matrix.specs.Sparse.{Sparse, IsMatrix};
+ghost use Rattle.cb_matrix.specs.Operations.{transposed};
 ghost use Rattle.cb_searches.specs.Searches.{HasEdges};
 ghost use Rattle.cb_searches.specs.SeveralSources.{AreDistancesFrom, AreLevelsFrom, in_column_of};
 
-use crate::one_block::{nearest_by_edges, unit_edges, weighted_edges};
+use crate::one_block::{levels_by, nearest_by_edges, weighted_edges};
 use cb_dcsc::Block;
 use cb_matrix::{Entry, LIMIT, Matrix, Shape};
 use cb_semirings::{MinPlus, OrAnd};
@@ -35,7 +36,9 @@ pub fn distances_from(
 }
 
 /// The level of each vertex from each of some sources, in the graph of a square block: column j has the levels from the
-/// jth source. The cost is that of [`distances_from`].
+/// jth source.
+///
+/// Costs one transpose, and for each source a search as in [`levels_by`](crate::levels_by).
 pub fn levels_from(
     alloc: Global,
     graph: &Block<OrAnd>,
@@ -49,8 +52,30 @@ pub fn levels_from(
 {
     let shape = graph.shape();
     prove_eq!(shape.rows(), shape.cols());
-    let edges = unit_edges(alloc, graph)?;
-    columns_from(alloc, &edges, sources)
+    let turned = cb_reshape::transpose(alloc, graph)?;
+    level_columns(alloc, graph, &turned, sources)
+}
+
+/// The levels from each source, side by side, in the graph of a square block, given its transpose too.
+fn level_columns(
+    alloc: Global,
+    graph: &Block<OrAnd>,
+    turned: &Block<OrAnd>,
+    sources: &[u32],
+) -> Result<Matrix<MinPlus>, AllocError>
+    requires square { graph.now.shape.rows ≡ graph.now.shape.cols }
+    requires turned { turned.now ≡ transposed or_and graph.now }
+    requires sources { All (λ v. v < graph.now.shape.rows) sources.now }
+    requires limit { length sources.now ≤ LIMIT }
+    ensures { IfOk result (AreLevelsFrom graph.now sources.now) }
+{
+    let shape = shape_of(graph.shape().rows(), sources.len() as u32);
+    let mut entries = Vec::new(alloc);
+    for n in 0..sources.len() {
+        let column = levels_by(alloc, graph, turned, sources[n])?;
+        append(&mut entries, column.entries(), n as u32)?;
+    }
+    Ok(Matrix::from_ordered(shape, entries))
 }
 
 /// The distances from each source, side by side, given the transposed matrix of the graph.

@@ -22,7 +22,9 @@ loop-n-preserved c = λ a is.
     let edge_cols : c.cols.result ≡ a.shape.rows = c.cols.ensures.value ∙ ap (λ (x : Extent). x.cols) c.shape.ensures.shape ∙ ap (λ (x : Sparse). x.shape.cols) is.turned in
     let rows : extent.rows ≡ a.shape.rows = ap (λ (x : Extent). x.rows) c.shape_of-shape.ensures ∙ edge_cols in
     let new_is : c.append.new.entries.items ≡ c.loop-n.entries.items ++ map (in_column_of n) m.entries = c.in_ok-append.ensures ∙ ap (λ es. c.loop-n.entries.items ++ map (in_column_of n) es) c.entries.ensures in
-    column_more a extent (slice_index c.args.sources.now) n c.loop-n.entries.items c.append.new.entries.items m l rows new_is matrix (c.in_ok-column.ensures a is) (c.loop-n.invariant a is)
+    let far : AreDistances a (slice_index c.args.sources.now n) m = c.in_ok-column.ensures a is in
+    let shape : m.shape ≡ record { rows = extent.rows; cols = 1 } = far.shape ∙ ap (λ k. record { rows = k; cols = 1 }) (sym rows) in
+    column_more extent (λ j x. AreDistances a (slice_index c.args.sources.now j) x) n c.loop-n.entries.items c.append.new.entries.items m l shape new_is matrix far (c.loop-n.invariant a is)
 
 pub from_ordered-requires : goal.from_ordered-requires
 from_ordered-requires c =
