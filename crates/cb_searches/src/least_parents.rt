@@ -4,14 +4,13 @@
 //! farther, so once the levels are known, every nearer vertex with an edge to a vertex is a parent. Each column of the
 //! block lists the sources of the edges to its vertex, ascending: the first one that is nearer is the least parent.
 ghost use Rattle.std.specs.Prelude.{◌≡◌, ℕ, ◌<◌, IfOk};
-ghost use Rattle.cb_semirings.specs.Tables.{min_plus, or_and};
+ghost use Rattle.cb_semirings.specs.Tables.{min_plus};
 ghost use Rattle.cb_matrix.specs.Sparse.{IsMatrix, at};
-ghost use Rattle.cb_matrix.specs.Operations.{transposed};
 ghost use Rattle.cb_searches.specs.Walks.{column_shape};
 ghost use Rattle.cb_searches.specs.Numbers.{number_at};
 ghost use Rattle.cb_searches.specs.Parents.{AreParents, first_below, first_nearer};
 
-use crate::breadth_first::{breadth_first, level_numbers};
+use crate::breadth_first::level_numbers;
 use crate::numbers::Numbers;
 use crate::searches::column_shape;
 use cb_dcsc::Block;
@@ -38,29 +37,6 @@ pub fn parents(
     let shape = graph.shape();
     prove_eq!(shape.rows(), shape.cols());
     let known = level_numbers(alloc, graph, source)?;
-    let column = parent_column(alloc, graph, &known)?;
-    prove_eq!(column.shape(), column_shape(shape));
-    Ok(column)
-}
-
-/// The least parents of the vertices, as [`parents`] finds them, in the graph of a square block, given its transpose too.
-///
-/// The levels cost what [`levels_by`](crate::levels_by) does.
-pub fn parents_by(
-    alloc: Global,
-    graph: &Block<OrAnd>,
-    turned: &Block<OrAnd>,
-    source: u32,
-) -> Result<Matrix<MinPlus>, AllocError>
-    requires square { graph.now.shape.rows ≡ graph.now.shape.cols }
-    requires source { source < graph.now.shape.rows }
-    requires turned { turned.now ≡ transposed or_and graph.now }
-    ensures parents { IfOk result (AreParents graph.now source) }
-    ensures matrix { IfOk result (IsMatrix min_plus) }
-{
-    let shape = graph.shape();
-    prove_eq!(shape.rows(), shape.cols());
-    let known = breadth_first(alloc, graph, turned, source)?;
     let column = parent_column(alloc, graph, &known)?;
     prove_eq!(column.shape(), column_shape(shape));
     Ok(column)
