@@ -11,7 +11,7 @@ fail() {
 
 # The program, the header and the Python package have one version.
 version=$(sed -n 's/^#define CBGRID_VERSION "\(.*\)"/\1/p' cbgrid.h)
-grep -qx "const VERSION: &str = \"$version\";" ../../crates/cb_words/src/commands.rt || fail "the program has another version than $version"
+grep -qx "const VERSION: &str = \"$version\";" ../../crates/cb_command_line/src/commands.rt || fail "the program has another version than $version"
 grep -qx "version = \"$version\"" ../python/pyproject.toml || fail "the Python package has another version than $version"
 
 "$out/check"

@@ -8,8 +8,7 @@ use cb_elementwise::{add, exclude, mask, prune, times};
 use cb_masked::{multiply_masked, multiply_outside};
 use cb_matrix::{Entry, LIMIT, Test};
 use cb_product::multiply;
-use cb_reductions::{column_sums, row_sums};
-use cb_reshape::{cut, place, transpose};
+use cb_reshape::{column_sums, cut, place, row_sums, transpose};
 use cb_samples::{SampleFault, block, shape};
 use cb_selections::{
     Function, Region, WriteBack, apply, assign, diagonal, diagonal_matrix, extract,

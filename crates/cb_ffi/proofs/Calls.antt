@@ -1,10 +1,10 @@
 -- What C gets of a call, from its result.
 use Rattle.std.proofs.Common.{◌≡◌, ◌≢◌, ℕ, sym, subst, arith}
 use Rattle.std.specs.Prelude.{Option, Result, Ok, Err, IfOk, IfErr}
-use Rattle.cb_interop.specs.declared.faults.Fault.{Fault}
-use Rattle.cb_interop.specs.declared.faults.Fault.TheVariants.{Text}
-use Rattle.cb_interop.specs.Refusals.{code_of}
-use Rattle.cb_interop.specs.Answers.{IsAnswer, IsLineOf}
+use Rattle.cb_kept.specs.declared.faults.Fault.{Fault}
+use Rattle.cb_kept.specs.declared.faults.Fault.TheVariants.{Text}
+use Rattle.cb_kept.specs.Refusals.{code_of}
+use Rattle.cb_kept.specs.Answers.{IsAnswer, IsLineOf}
 use Rattle.cb_ffi.specs.Calls.{IsCall, IsLine}
 use Rattle.cb_market_lines.specs.declared.ReadFault.{ReadFault}
 

@@ -2,9 +2,9 @@
 use Rattle.std.proofs.Common.{◌≡◌, ◌≢◌, ℕ, List, length, Result, Ok, Err, ◌∙◌, subst}
 use Rattle.std.specs.Prelude.{Vec, IfOk, IfErr}
 use Rattle.cb_shares.specs.Shares.{AreEnds}
-use Rattle.cb_interop.specs.declared.faults.Fault.{Fault}
-use Rattle.cb_interop.specs.Refusals.{code_of}
-use Rattle.cb_interop.specs.Answers.{IsAnswer}
+use Rattle.cb_kept.specs.declared.faults.Fault.{Fault}
+use Rattle.cb_kept.specs.Refusals.{code_of}
+use Rattle.cb_kept.specs.Answers.{IsAnswer}
 use Rattle.cb_ffi.specs.Calls.{IsCall}
 use Rattle.cb_ffi.proofs.Calls.{call_of}
 

@@ -1,12 +1,12 @@
 -- What C gets of a call that keeps a matrix.
 use Rattle.std.proofs.Common.{◌≡◌, ◌≢◌, ℕ, sym, subst, ⊎_elim, arith}
 use Rattle.std.specs.Prelude.{Option, Result, Ok, Err, IfOk, IfErr}
-use Rattle.cb_interop.specs.declared.faults.Fault.{Fault}
-use Rattle.cb_interop.specs.declared.faults.Fault.TheVariants.{Memory}
-use Rattle.cb_interop.specs.declared.kept.Kept.{Kept}
+use Rattle.cb_kept.specs.declared.faults.Fault.{Fault}
+use Rattle.cb_kept.specs.declared.faults.Fault.TheVariants.{Memory}
+use Rattle.cb_kept.specs.declared.kept.Kept.{Kept}
 use Rattle.cb_ffi.specs.declared.handles.Owned.{Owned}
-use Rattle.cb_interop.specs.Refusals.{code_of}
-use Rattle.cb_interop.specs.Answers.{IsAnswer, IsFaultLine}
+use Rattle.cb_kept.specs.Refusals.{code_of}
+use Rattle.cb_kept.specs.Answers.{IsAnswer, IsFaultLine}
 use Rattle.cb_ffi.specs.Calls.{IsLine}
 use Rattle.cb_ffi.specs.KeptCalls.{Has, HasHandedOut, IsKeptCall}
 use Rattle.cb_market_lines.specs.declared.ReadFault.{ReadFault}

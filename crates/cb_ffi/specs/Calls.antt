@@ -1,10 +1,10 @@
 -- What C gets of a call.
 use Rattle.std.specs.Prelude.{◌≡◌, ◌≢◌, ℕ, Option, Some}
 use Rattle.cb_market_lines.specs.declared.ReadFault.{ReadFault}
-use Rattle.cb_interop.specs.declared.faults.Fault.{Fault}
-use Rattle.cb_interop.specs.declared.faults.Fault.TheVariants.{Text}
-use Rattle.cb_interop.specs.Refusals.{code_of}
-use Rattle.cb_interop.specs.Answers.{NoFault}
+use Rattle.cb_kept.specs.declared.faults.Fault.{Fault}
+use Rattle.cb_kept.specs.declared.faults.Fault.TheVariants.{Text}
+use Rattle.cb_kept.specs.Refusals.{code_of}
+use Rattle.cb_kept.specs.Answers.{NoFault}
 
 -- code 0 and the result, or else the number of the first fault, and what was there before
 pub record IsCall {X : Type 0} (faults : Fault → Type 0) (is : X → Type 0) (code : ℕ) (old new : X) : Type 0 where

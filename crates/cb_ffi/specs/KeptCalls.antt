@@ -7,28 +7,28 @@ use Rattle.cb_semirings.specs.declared.names.SemiringName.{SemiringName}
 use Rattle.cb_matrix.specs.Sparse.{Sparse}
 use Rattle.cb_operations.specs.declared.operations.Operation.{Operation}
 use Rattle.cb_lists.specs.declared.lists.Columns.{Columns}
-use Rattle.cb_interop.specs.declared.triples.Triple.{Triple}
-use Rattle.cb_interop.specs.declared.faults.Fault.{Fault}
-use Rattle.cb_interop.specs.declared.faults.Fault.TheVariants.{Memory}
-use Rattle.cb_interop.specs.declared.kept.Kept.{Kept}
-use Rattle.cb_interop.specs.Refusals.{code_of, over, read_faults, list_faults, IsMemory}
-use Rattle.cb_interop.specs.KeptAnswers.{kept_faults, HasMadeKept, OverName, IsKeptOf}
-use Rattle.cb_interop.specs.declared.selections.Selection.{Selection}
-use Rattle.cb_interop.specs.Kept.{matrix_in}
-use Rattle.cb_interop.specs.KeptSelections.{kept_selection_faults, HasSelected, number_faults, IsKeptExtract}
-use Rattle.cb_interop.specs.declared.pairings.Pairing.{Pairing}
-use Rattle.cb_interop.specs.KeptPairings.{pair_faults, IsKeptPair}
+use Rattle.cb_kept.specs.declared.triples.Triple.{Triple}
+use Rattle.cb_kept.specs.declared.faults.Fault.{Fault}
+use Rattle.cb_kept.specs.declared.faults.Fault.TheVariants.{Memory}
+use Rattle.cb_kept.specs.declared.kept.Kept.{Kept}
+use Rattle.cb_kept.specs.Refusals.{code_of, over, read_faults, list_faults, IsMemory}
+use Rattle.cb_kept.specs.KeptAnswers.{kept_faults, HasMadeKept, OverName, IsKeptOf}
+use Rattle.cb_kept.specs.declared.selections.Selection.{Selection}
+use Rattle.cb_kept.specs.Kept.{matrix_in}
+use Rattle.cb_kept.specs.KeptSelections.{kept_selection_faults, HasSelected, number_faults, IsKeptExtract}
+use Rattle.cb_kept.specs.declared.pairings.Pairing.{Pairing}
+use Rattle.cb_kept.specs.KeptPairings.{pair_faults, IsKeptPair}
 use Rattle.cb_selections.specs.declared.updates.WriteBack.{WriteBack}
-use Rattle.cb_interop.specs.KeptUpdates.{update_faults, HasUpdated}
-use Rattle.cb_interop.specs.declared.axes.Axis.{Axis}
-use Rattle.cb_interop.specs.KeptDegrees.{IsKeptDegrees}
-use Rattle.cb_interop.specs.KeptProducts.{outside_faults, IsKeptOutside}
+use Rattle.cb_kept.specs.KeptUpdates.{update_faults, HasUpdated}
+use Rattle.cb_kept.specs.declared.axes.Axis.{Axis}
+use Rattle.cb_kept.specs.KeptDegrees.{IsKeptDegrees}
+use Rattle.cb_kept.specs.KeptProducts.{outside_faults, IsKeptOutside}
 use Rattle.cb_shares.specs.Shares.{AreEnds}
-use Rattle.cb_interop.specs.declared.kept_masked_panels.Allowed.{Allowed}
-use Rattle.cb_interop.specs.KeptPanels.{factor_faults, join_faults, IsKeptJoin, IsKeptMaskedPanel, IsKeptPanel}
-use Rattle.cb_interop.specs.KeptGraphs.{searches_faults, given_faults, IsKeptColumn}
-use Rattle.cb_interop.specs.Triples.{triple_faults, IsKeptTriples}
-use Rattle.cb_interop.specs.KeptTexts.{IsKeptRead}
+use Rattle.cb_kept.specs.declared.kept_masked_panels.Allowed.{Allowed}
+use Rattle.cb_kept.specs.KeptPanels.{factor_faults, join_faults, IsKeptJoin, IsKeptMaskedPanel, IsKeptPanel}
+use Rattle.cb_kept.specs.KeptGraphs.{searches_faults, given_faults, IsKeptColumn}
+use Rattle.cb_kept.specs.Triples.{triple_faults, IsKeptTriples}
+use Rattle.cb_kept.specs.KeptTexts.{IsKeptRead}
 use Rattle.cb_ffi.specs.declared.handles.Owned.{Owned}
 use Rattle.cb_ffi.specs.Calls.{IsCall}
 

@@ -4,9 +4,9 @@
 //! call uses it any more. No proof can check that C does so.
 ghost use Rattle.std.specs.Prelude.{◌≡◌, Option, Some, IsSome};
 ghost use Rattle.std.specs.Borrow.{Bor, MutBor};
-ghost use Rattle.cb_interop.specs.declared.kept.Kept.{Kept as KeptValue};
+ghost use Rattle.cb_kept.specs.declared.kept.Kept.{Kept as KeptValue};
 
-use cb_interop::Kept;
+use cb_kept::Kept;
 use std::marker::Model;
 
 /// A kept matrix that C owns, or a place for one.

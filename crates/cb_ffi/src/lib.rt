@@ -30,24 +30,24 @@ ghost use Rattle.cb_searches.specs.SeveralSources.{AreDistancesFrom, AreLevelsFr
 ghost use Rattle.cb_searches.specs.GivenNumbers.{AreDistancesGiven, AreLevelsGiven};
 ghost use Rattle.cb_graphs.specs.Triangles.{triangle_count, stopped};
 ghost use Rattle.cb_lists.specs.Lists.{HasLists};
-ghost use Rattle.cb_interop.specs.Refusals.{code_of, IsMemory, first_over};
-ghost use Rattle.cb_interop.specs.Kept.{matrix_in, semiring_of};
-ghost use Rattle.cb_interop.specs.KeptAnswers.{prune_of, IsSummary};
-ghost use Rattle.cb_interop.specs.KeptGraphs.{search_faults, square_faults, IsKeptColumn, IsKeptComponents, IsKeptParents};
-ghost use Rattle.cb_reductions.specs.Sums.{matrix_total};
-ghost use Rattle.cb_interop.specs.declared.pairings.Pairing.TheVariants as pairing_is;
-ghost use Rattle.cb_interop.specs.declared.selections.Selection.TheVariants as selection_is;
-ghost use Rattle.cb_interop.specs.KeptSelections.{function_of, region_of};
-ghost use Rattle.cb_interop.specs.KeptUpdates.{write_back_of};
-ghost use Rattle.cb_interop.specs.declared.axes.Axis.TheVariants as axis_is;
-ghost use Rattle.cb_interop.specs.declared.kept_masked_panels.Allowed.TheVariants as allowed_is;
-ghost use Rattle.cb_interop.specs.KeptTexts.{IsKeptText};
+ghost use Rattle.cb_kept.specs.Refusals.{code_of, IsMemory, first_over};
+ghost use Rattle.cb_kept.specs.Kept.{matrix_in, semiring_of};
+ghost use Rattle.cb_kept.specs.KeptAnswers.{prune_of, IsSummary};
+ghost use Rattle.cb_kept.specs.KeptGraphs.{search_faults, square_faults, IsKeptColumn, IsKeptComponents, IsKeptParents};
+ghost use Rattle.cb_reshape.specs.Sums.{matrix_total};
+ghost use Rattle.cb_kept.specs.declared.pairings.Pairing.TheVariants as pairing_is;
+ghost use Rattle.cb_kept.specs.declared.selections.Selection.TheVariants as selection_is;
+ghost use Rattle.cb_kept.specs.KeptSelections.{function_of, region_of};
+ghost use Rattle.cb_kept.specs.KeptUpdates.{write_back_of};
+ghost use Rattle.cb_kept.specs.declared.axes.Axis.TheVariants as axis_is;
+ghost use Rattle.cb_kept.specs.declared.kept_masked_panels.Allowed.TheVariants as allowed_is;
+ghost use Rattle.cb_kept.specs.KeptTexts.{IsKeptText};
 ghost use Rattle.cb_ffi.specs.Calls.{IsCall, IsLine};
 ghost use Rattle.cb_ffi.specs.KeptCalls.{HasHandedOut, IsDegreesCall, IsEndsCall, IsExtractCall, IsJoinCall, IsKeepCall, IsKeptCall, IsKeptOperation, IsMaskedPanelCall, IsNumbersFromCall, IsNumbersGivenCall, IsOutsideCall, IsOwnedJoinCall, IsPairCall, IsPanelCall, IsReadCall, IsSelectionCall, IsTriplesCall, IsUpdateCall};
 
 mod handles;
 
-use cb_interop::{
+use cb_kept::{
     Allowed, Axis, Fault, Kept, Pairing, Selection, Summary, Text, Triple, function_of, keep_lists,
     keep_triples, kept_components, kept_degrees, kept_ends, kept_extract, kept_join,
     kept_masked_panel, kept_numbers, kept_numbers_from, kept_numbers_given, kept_outside,

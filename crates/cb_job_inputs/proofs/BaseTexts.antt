@@ -14,8 +14,8 @@ use Rattle.cb_market_lines.specs.Lines.{begins_blank, lines, words, kept_lines}
 use Rattle.cb_market_lines.specs.declared.Kind.TheVariants.{Memory}
 use Rattle.cb_market_lines.proofs.Law.{end_memory}
 use Rattle.cb_layout.specs.Distributed.{Distributed}
-use Rattle.cb_outcomes.specs.declared.faults.JobFault.{JobFault}
-use Rattle.cb_outcomes.specs.declared.faults.JobFault.TheVariants.{Read}
+use Rattle.cb_job_ends.specs.declared.faults.JobFault.{JobFault}
+use Rattle.cb_job_ends.specs.declared.faults.JobFault.TheVariants.{Read}
 use Rattle.cb_job_inputs.specs.Inputs.{IsTextFault, IsTextRead}
 
 module _ (base : Arithmetic) (mul : ℕ → ℕ → ℕ) where

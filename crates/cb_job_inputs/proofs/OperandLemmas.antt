@@ -6,7 +6,7 @@ use Rattle.std.proofs.lemmas.List.{get_or-drop, get_or_read}
 use Rattle.cb_semirings.specs.Arithmetic.{Arithmetic}
 use Rattle.cb_matrix.specs.Sparse.{Sparse}
 use Rattle.cb_market_lines.specs.Reads.{Reads}
-use Rattle.cb_outcomes.specs.Texts.{text_at}
+use Rattle.cb_job_ends.specs.Texts.{text_at}
 use Rattle.cb_operations.specs.OperationAnswers.{matrix_at}
 use Rattle.cb_job_inputs.specs.Inputs.{AreMatrices}
 

@@ -1,10 +1,10 @@
 -- The first text that isn't a matrix, where each is read over a semiring of its own.
 use Rattle.std.proofs.Common.{◌≡◌, ℕ, zero, suc, ◌<◌, List, length, refl, sym, subst}
 use Rattle.cb_semirings.specs.Arithmetic.{Arithmetic}
-use Rattle.cb_outcomes.specs.Texts.{text_at}
+use Rattle.cb_job_ends.specs.Texts.{text_at}
 use Rattle.cb_job_inputs.specs.Inputs.{IsFirstReadFault, IsMatrixText, IsTextFault, arithmetic_at}
-use Rattle.cb_outcomes.specs.declared.faults.JobFault.{JobFault}
-use Rattle.cb_outcomes.specs.declared.faults.JobFault.TheVariants.{Read}
+use Rattle.cb_job_ends.specs.declared.faults.JobFault.{JobFault}
+use Rattle.cb_job_ends.specs.declared.faults.JobFault.TheVariants.{Read}
 
 same_at : (s : Arithmetic) (i : ℕ) → arithmetic_at s s i ≡ s
 same_at s zero = refl

@@ -7,9 +7,9 @@ use Rattle.cb_layout.specs.Distributed.{Distributed}
 use Rattle.cb_market_lines.specs.Faults as market
 use Rattle.cb_market_lines.specs.Reads.{Reads}
 use Rattle.cb_operations.specs.OperationAnswers.{matrix_at}
-use Rattle.cb_outcomes.specs.Texts.{text_at}
-use Rattle.cb_outcomes.specs.declared.faults.JobFault.{JobFault}
-use Rattle.cb_outcomes.specs.declared.faults.JobFault.TheVariants.{Read}
+use Rattle.cb_job_ends.specs.Texts.{text_at}
+use Rattle.cb_job_ends.specs.declared.faults.JobFault.{JobFault}
+use Rattle.cb_job_ends.specs.declared.faults.JobFault.TheVariants.{Read}
 
 -- the text reads as some matrix
 abbrev pub IsMatrixText : Arithmetic → List ℕ → Type 0

@@ -5,15 +5,15 @@ ghost use Rattle.std.specs.Prelude.{◌≡◌, ℕ, ◌≤◌, List, ◌∷◌, 
 ghost use Rattle.std.specs.Thread.{IsSync};
 ghost use Rattle.cb_market_lines.specs.Reads.{Reads};
 ghost use Rattle.cb_job_inputs.specs.Inputs.{AreMatrices, IsFirstReadFault, IsReadFault, IsTextFault, IsTextRead, arithmetic_at};
-ghost use Rattle.cb_outcomes.specs.Texts.{text_at};
+ghost use Rattle.cb_job_ends.specs.Texts.{text_at};
 
 use crate::reading::{Pieces, read_side_by_side};
 use cb_bases::Based;
 use cb_dcsc::Block;
+use cb_job_ends::faults::JobFault;
+use cb_job_ends::texts::Text;
 use cb_layout::{DistributedMatrix, Grid};
 use cb_market::{Kind, ReadFault};
-use cb_outcomes::faults::JobFault;
-use cb_outcomes::texts::Text;
 use cb_semirings::Semiring;
 use std::alloc::Global;
 use std::thread::{Threads, join};

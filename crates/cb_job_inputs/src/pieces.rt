@@ -2,11 +2,11 @@
 ghost use Rattle.std.specs.Prelude.{◌≡◌, ◌<◌, ◌++◌, ℕ, List, true, All, IfSome, OnOk, IfOk, length, get_or};
 ghost use Rattle.cb_market.specs.Pieces.{IsOpening, MayFollow, is_whole};
 ghost use Rattle.cb_job_inputs.specs.TextPieces.{AreCut, IsCutOf, IsRead, in_a_row};
-ghost use Rattle.cb_outcomes.specs.Texts.{joined};
+ghost use Rattle.cb_job_ends.specs.Texts.{joined};
 
+use cb_job_ends::texts::Text;
 use cb_layout::Grid;
 use cb_market::{Header, Opening, Piece, Size, parted, read_piece, room_for_entries};
-use cb_outcomes::texts::Text;
 use cb_semirings::Semiring;
 use std::alloc::{AllocError, Global};
 use std::marker::Model;

@@ -5,10 +5,10 @@ ghost use Rattle.cb_market.specs.Pieces.{Part};
 ghost use Rattle.cb_job_inputs.specs.TextPieces.{AreInOrder};
 
 use crate::pieces::Cut;
+use cb_job_threads::gates::Gate;
+use cb_job_threads::turns::Turns;
 use cb_market::Piece;
 use cb_semirings::Semiring;
-use cb_turns::gates::Gate;
-use cb_turns::turns::Turns;
 use std::alloc::{AllocError, Global};
 use std::thread::{Threads, join};
 

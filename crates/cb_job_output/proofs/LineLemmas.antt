@@ -2,10 +2,10 @@
 use Rattle.std.proofs.Common.{◌≡◌, ℕ, List, Bool, true, false, [], ◌++◌, append-nil, refl, sym, subst, inr}
 use Rattle.std.specs.Prelude.{Option, Result, Ok, Err, OnOk, OnErr}
 use Rattle.std.specs.Io.KnownBytes.{Appends}
-use Rattle.cb_outcomes.specs.Sinks.{AppendsPrefix}
-use Rattle.cb_outcomes.specs.WriteEnds.{IsTextEnd, end_of_put}
-use Rattle.cb_outcomes.specs.declared.faults.JobFault.{JobFault}
-use Rattle.cb_outcomes.proofs.SinkLemmas.{Appends-trans, appends_none, prefix_page}
+use Rattle.cb_job_ends.specs.Sinks.{AppendsPrefix}
+use Rattle.cb_job_ends.specs.WriteEnds.{IsTextEnd, end_of_put}
+use Rattle.cb_job_ends.specs.declared.faults.JobFault.{JobFault}
+use Rattle.cb_job_ends.proofs.SinkLemmas.{Appends-trans, appends_none, prefix_page}
 
 -- a beginning of a text is one of the text and some lines
 pub prefix_of_text : (a b : Option (List ℕ)) (text lines : List ℕ) → AppendsPrefix a b text → AppendsPrefix a b (text ++ lines)

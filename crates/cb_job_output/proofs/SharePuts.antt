@@ -5,8 +5,8 @@ use Rattle.std.proofs.lemmas.List.{take-append-drop, take_more}
 use Rattle.std.specs.Prelude.{All}
 use Rattle.std.specs.Io.KnownBytes.{Appends}
 use Rattle.cb_job_output.specs.Rounds.{joined}
-use Rattle.cb_outcomes.specs.Sinks.{AppendsPrefix}
-use Rattle.cb_outcomes.proofs.SinkLemmas.{prefix_page}
+use Rattle.cb_job_ends.specs.Sinks.{AppendsPrefix}
+use Rattle.cb_job_ends.proofs.SinkLemmas.{prefix_page}
 
 -- one more share is joined
 pub joined_more : (shares : List (List ℕ)) (i : ℕ) (d : List ℕ) → i < length shares → joined (take (i + 1) shares) ≡ joined (take i shares) ++ get_or shares i d

@@ -4,20 +4,20 @@ ghost use Rattle.std.specs.Prelude.{◌≡◌, ℕ, ◌+◌, ◌<◌, ◌++◌, 
 ghost use Rattle.std.specs.Io.KnownBytes.{Appends};
 ghost use Rattle.cb_market_pages.specs.Text.{text_of};
 ghost use Rattle.cb_job_output.specs.Rounds.{joined, AreOf, AreAllOf};
-ghost use Rattle.cb_outcomes.specs.Sinks.{AppendsPrefix};
-ghost use Rattle.cb_outcomes.specs.WriteEnds.{IsTextEnd, end_of_put};
+ghost use Rattle.cb_job_ends.specs.Sinks.{AppendsPrefix};
+ghost use Rattle.cb_job_ends.specs.WriteEnds.{IsTextEnd, end_of_put};
 
 use crate::rounds::{Dealt, FEW, Form, Round};
 use crate::stacks::Stack;
 use cb_bases::Based;
+use cb_job_ends::faults::JobFault;
+use cb_job_ends::sinks::{PutFault, Sink, put_all};
+use cb_job_threads::apart::each_apart;
+use cb_job_threads::gates::{Gate, OpenGate};
+use cb_job_threads::turns::Turns;
 use cb_layout::{DistributedMatrix, PanelledMatrix};
 use cb_market_pages::{Page, Share, Sheet, TextPages};
-use cb_outcomes::faults::JobFault;
-use cb_outcomes::sinks::{PutFault, Sink, put_all};
 use cb_semirings::Semiring;
-use cb_turns::apart::each_apart;
-use cb_turns::gates::{Gate, OpenGate};
-use cb_turns::turns::Turns;
 use std::alloc::{AllocError, Global};
 use std::thread::Threads;
 use std::{mem, thread};

@@ -2,10 +2,10 @@
 ghost use Rattle.std.specs.Prelude.{◌≡◌, ℕ, ◌<◌, [], List, get_or, IfOk, IfSome};
 ghost use Rattle.cb_job_output.specs.Rounds.{AreOf};
 
+use cb_job_threads::gates::Gate;
+use cb_job_threads::turns::Turns;
 use cb_market_pages::{Share, Sheet};
 use cb_semirings::Semiring;
-use cb_turns::gates::Gate;
-use cb_turns::turns::Turns;
 use std::alloc::{AllocError, Global};
 use std::marker::Model;
 

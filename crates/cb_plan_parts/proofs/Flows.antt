@@ -14,8 +14,8 @@ use Rattle.cb_plan.specs.declared.acts.Start.{Start}
 use Rattle.cb_plan.specs.Checks.{Lanes, IsSound, Passes, lanes_after, none_shut, started, plan_fault, are_all_shut, all_below, all_filled, operands_of, shapes_agree}
 use Rattle.cb_plan.proofs.PassingActs.{passes-append, lanes_after-append, passes_check}
 use Rattle.cb_grid.proofs.Parts.{rank_of, row_below}
-use Rattle.cb_collectives.specs.Collectives.{shut_acts}
-use Rattle.cb_collectives.proofs.ShutCheck.{shut_acts_pass, all_shut_after}
+use Rattle.cb_plan_parts.specs.Collectives.{shut_acts}
+use Rattle.cb_plan_parts.proofs.ShutCheck.{shut_acts_pass, all_shut_after}
 use Rattle.cb_plan_parts.specs.PlanParts.{each_rank}
 use Rattle.cb_plan_parts.specs.Flows.{Flows}
 

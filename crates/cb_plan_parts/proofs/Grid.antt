@@ -5,8 +5,8 @@ use Rattle.std.specs.List.{range_with_len}
 use Rattle.std.proofs.lemmas.Bool.Decides.{nat_tests}
 use Rattle.std.proofs.lemmas.Nat.{div-mul-add, mod-mul-add}
 use Rattle.std.proofs.lemmas.List.FromFn.{get_or-map-range_with_len, length-map-range_with_len}
-use Rattle.cb_collectives.specs.Collectives.{is_member, AreDistinct}
-use Rattle.cb_collectives.proofs.MemberPlaces.{distinct_from_apart}
+use Rattle.cb_plan_parts.specs.Collectives.{is_member, AreDistinct}
+use Rattle.cb_plan_parts.proofs.MemberPlaces.{distinct_from_apart}
 use Rattle.cb_grid.specs.Parts.{row_group, column_group}
 use Rattle.cb_grid.proofs.Parts.{rank_below}
 use Rattle.cb_plan.proofs.Effects.{split}

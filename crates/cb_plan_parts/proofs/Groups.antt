@@ -5,9 +5,9 @@ use Rattle.std.specs.List.{range_with_len}
 use Rattle.std.proofs.lemmas.Bool.Decides.{nat_tests}
 use Rattle.cb_letters.specs.declared.Tag.{Tag}
 use Rattle.cb_plan.specs.Meaning.{Algebra, State, meaning}
-use Rattle.cb_collectives.specs.Collectives.{is_member, spread, broadcast_acts}
+use Rattle.cb_plan_parts.specs.Collectives.{is_member, spread, broadcast_acts}
 use Rattle.cb_plan.proofs.Effects.{split, meaning-append}
-use Rattle.cb_collectives.proofs.Spread.{broadcast_spreads}
+use Rattle.cb_plan_parts.proofs.Spread.{broadcast_spreads}
 
 -- a broadcast in each of the groups a to a+m-1
 module _ {M : Type 0} (ops : Algebra M) (group : ℕ → List ℕ) (root : ℕ → ℕ) (tag : ℕ → Tag) (slot into : ℕ) where

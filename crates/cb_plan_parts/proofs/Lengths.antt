@@ -10,9 +10,9 @@ use Rattle.cb_plan.specs.declared.acts.Op.{Op}
 use Rattle.cb_plan.specs.declared.acts.Act.{Act}
 use Rattle.cb_plan.specs.declared.acts.Act.TheVariants as act_is
 use Rattle.cb_plan.proofs.Effects.{split}
-use Rattle.cb_collectives.specs.Collectives.{broadcast_acts, copied_at, tree_move, tree_moves, turned, place_of, shut_acts}
-use Rattle.cb_collectives.proofs.MemberPlaces.{turned_at-length}
-use Rattle.cb_collectives.proofs.Counts.{count_shut}
+use Rattle.cb_plan_parts.specs.Collectives.{broadcast_acts, copied_at, tree_move, tree_moves, turned, place_of, shut_acts}
+use Rattle.cb_plan_parts.proofs.MemberPlaces.{turned_at-length}
+use Rattle.cb_plan_parts.proofs.Counts.{count_shut}
 use Rattle.cb_plan_parts.specs.PlanParts.{each_rank}
 
 -- n lists, each of at most c acts

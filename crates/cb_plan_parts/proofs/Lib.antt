@@ -10,7 +10,7 @@
 -- Flows: acts that pass the check and shut no lane: two lists (`flows-append`), a list for each number of a range
 --   (`flows_each`), an operation of each rank whose operands are there (`CanWork`, `works_flow`, `each_flows`),
 --   and that such acts, followed by the shutting of all lanes, are a plan without a fault (`flows_check`).
--- Broadcasts: a broadcast in each of some groups passes the check (`groups_flow`).
+-- GroupBroadcasts: a broadcast in each of some groups passes the check (`groups_flow`).
 -- Starts: starts that are listed rank by rank: the slots at the start (`starts_there`, `starts_elsewhere`), that
 --   they exist and name no slot twice (`all_starts`, `starts_once`); those of operands (`operands_there`,
 --   `operands_elsewhere`, `operands_exist`, `operands_once`).
@@ -21,7 +21,38 @@ pub mod PartStarts
 pub mod Everywhere
 pub mod Groups
 pub mod Flows
-pub mod Broadcasts
+pub mod GroupBroadcasts
 pub mod Starts
 pub mod LoopGrowth
 pub mod Lengths
+-- Lemmas on collectives, by topic. Crates above cite those that are `pub`.
+--
+-- MemberPlaces: members of a list, their places (`place-below`, `member-place_of`, `at_place`), lists of distinct
+--   members (`distinct_from_apart`, `same_member`), and the list turned so that the root is first (`turned_at-length`).
+-- Counts: how many acts each collective appends: `count_broadcast`, `count_gather`, `count_all_to_all`,
+--   `count_reduce`, `count_shut`.
+-- Spread: what a broadcast does to the slots, over blocks of any kind: `broadcast_spreads`.
+-- SendMeaning: what sending a slot does (`act_sent`), and what gather and all_to_all do (`gather_gathers`,
+--   `all_to_all_exchanges`).
+-- ReduceMeaning, MemberTotals: what reduce does (`reduce_sums`), and that its sum is the sum at each place
+--   (`members_add_up`).
+-- ShutMeaning: shutting lanes changes no slot: `shut_nothing`.
+-- BroadcastCheck: a broadcast passes the check (`broadcast_passes`) and shuts no lane (`broadcast_keeps_lanes`); a copy
+--   passes too (`copy_is_sound`).
+-- SendCheck: slots that are sent one after another pass the check (`sends_pass`) and shut no lane
+--   (`sends_keep_lanes`); so does all_to_all (`all_to_all_passes`).
+-- ShutCheck: shutting all lanes passes the check if they are open (`shut_acts_pass`), and shuts each
+--   (`all_shut_after`).
+-- PlanGrowth: how a plan grows: not at all (`grew_none`), and twice (`grew_both`); the total length of lists of acts
+--   (`length_up_to`). The rest is about the loops of this crate, which have room.
+pub mod PlanGrowth
+pub mod MemberPlaces
+pub mod Counts
+pub mod Spread
+pub mod ShutMeaning
+pub mod SendMeaning
+pub mod ReduceMeaning
+pub mod BroadcastCheck
+pub mod ShutCheck
+pub mod MemberTotals
+pub mod SendCheck

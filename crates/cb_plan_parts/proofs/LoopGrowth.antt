@@ -10,9 +10,9 @@ use Rattle.cb_plan.specs.declared.acts.Start.{Start}
 use Rattle.cb_plan.specs.Checks.{started, none_shut}
 use Rattle.cb_plan.specs.Plans.{PlanView}
 use Rattle.cb_plan.proofs.Ranges.{pushed, extended}
-use Rattle.cb_collectives.specs.Appends.{IsRefusal, IsTooLong, too_long}
-pub use Rattle.cb_collectives.proofs.PlanGrowth.{grew_none, grew_both}
-use Rattle.cb_collectives.proofs.PlanGrowth.{length_up_to}
+use Rattle.cb_plan_parts.specs.Appends.{IsRefusal, IsTooLong, too_long}
+pub use Rattle.cb_plan_parts.proofs.PlanGrowth.{grew_none, grew_both}
+use Rattle.cb_plan_parts.proofs.PlanGrowth.{length_up_to}
 use Rattle.cb_plan_parts.specs.Flows.{Flows}
 use Rattle.cb_plan_parts.specs.Growth.{IsWithinLimit, Grew, no_memory}
 

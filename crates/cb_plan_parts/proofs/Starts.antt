@@ -11,7 +11,7 @@ use Rattle.cb_plan.specs.Meaning.{State}
 use Rattle.cb_plan.specs.Checks.{with_start, started_from, started, all_below}
 use Rattle.cb_plan.specs.Plans.{IsElsewhere}
 use Rattle.cb_plan.proofs.Effects.{split}
-use Rattle.cb_collectives.specs.Collectives.{is_member, are_distinct}
+use Rattle.cb_plan_parts.specs.Collectives.{is_member, are_distinct}
 use Rattle.cb_grid.specs.Parts.{part_shape}
 use Rattle.cb_grid.proofs.Parts.{rank_below}
 use Rattle.cb_plan_parts.specs.declared.first_slots.Operand.{Operand}

@@ -12,7 +12,7 @@ use Rattle.cb_plan.specs.declared.acts.Start.{Start}
 use Rattle.cb_plan.specs.declared.stores.TheConstants.{SLOTS}
 use Rattle.cb_plan.specs.Meaning.{State}
 use Rattle.cb_plan.specs.Checks.{all_below}
-use Rattle.cb_collectives.specs.Collectives.{are_distinct}
+use Rattle.cb_plan_parts.specs.Collectives.{are_distinct}
 use Rattle.cb_grid.specs.Parts.{part_shape}
 use Rattle.cb_grid.specs.Blocks.{block_of}
 use Rattle.cb_plan_parts.specs.declared.first_slots.Operand.{Operand}

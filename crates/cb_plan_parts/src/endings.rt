@@ -1,13 +1,13 @@
 //! The end of a plan: all lanes are shut.
 ghost use Rattle.std.specs.Prelude.{◌≡◌, ◌<◌, ◌*◌, ◌++◌, All, AllPairs, IfOk, IfErr};
-ghost use Rattle.cb_collectives.specs.Collectives.{shut_acts};
+ghost use Rattle.cb_plan_parts.specs.Collectives.{shut_acts};
 ghost use Rattle.cb_plan.specs.Checks.{started, none_shut};
 ghost use Rattle.cb_plan.specs.Plans.{IsElsewhere};
 ghost use Rattle.cb_plan.specs.Runnable.{IsRunnable};
 ghost use Rattle.cb_plan_parts.specs.Flows.{Flows};
 ghost use Rattle.cb_plan_parts.specs.Growth.{IsWithinLimit, no_memory};
 
-use cb_collectives::shut_all;
+use crate::shut_all;
 use cb_grid::Grid;
 use cb_plan::{Plan, PlanFault, Planned, SLOTS, Start};
 

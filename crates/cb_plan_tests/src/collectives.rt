@@ -1,13 +1,13 @@
 //! The acts that collectives append. What these acts do to the slots is proved, and that a refused call appends none.
 ghost use Rattle.std.specs.Prelude.{◌≡◌, ◌≤◌, ◌+◌, length, true, OnErr};
-ghost use Rattle.cb_collectives.specs.Collectives.{is_member, AreDistinct, Means, Reduces, MembersAddUp};
-ghost use Rattle.cb_collectives.specs.Collectives.{broadcast_acts, spread_from, gather_acts, gathered, reduce_acts, all_to_all_acts, exchanged, shut_acts};
+ghost use Rattle.cb_plan_parts.specs.Collectives.{is_member, AreDistinct, Means, Reduces, MembersAddUp};
+ghost use Rattle.cb_plan_parts.specs.Collectives.{broadcast_acts, spread_from, gather_acts, gathered, reduce_acts, all_to_all_acts, exchanged, shut_acts};
 ghost use Rattle.cb_plan.specs.declared.stores.TheConstants.{SLOTS};
 ghost use Rattle.cb_plan_tests.specs.declared.collectives.TheConstants.{TAG};
 
-use cb_collectives::{all_to_all, broadcast, gather, reduce, shut_all};
 use cb_letters::Tag;
 use cb_plan::{Act, Op, Plan, PlanFault};
+use cb_plan_parts::{all_to_all, broadcast, gather, reduce, shut_all};
 
 const TAG: Tag = Tag(4);
 

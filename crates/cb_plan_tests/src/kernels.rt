@@ -4,17 +4,17 @@ ghost use Rattle.cb_plan.specs.Runnable.{IsRunnable};
 
 use crate::samples::{Given, entries, grid_of, matrix};
 use cb_dcsc::Block;
-use cb_grid_plans::{
+use cb_layout::Grid;
+use cb_matrix::{Shape, Test};
+use cb_plan::{CheckedPlan, PlanFault, PlanFaultKind, Planned, RankStore, SLOTS, Slot};
+use cb_plan_operations::{
     LEFT, RESULT, RIGHT, grid_add, grid_column_sums, grid_prune, grid_row_sums, grid_times,
     grid_transpose, grid_vector,
 };
-use cb_layout::Grid;
-use cb_local::run_plain;
-use cb_matrix::{Shape, Test};
-use cb_plan::{CheckedPlan, PlanFault, PlanFaultKind, Planned, RankStore, SLOTS, Slot};
+use cb_plan_vectors::scatter_input;
+use cb_rank_work::run_plain;
 use cb_samples::{SampleFault, shape};
 use cb_semirings::PlusTimes;
-use cb_vector_pieces::scatter_input;
 use std::alloc::{AllocError, Global};
 use std::test::Fail;
 

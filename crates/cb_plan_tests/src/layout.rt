@@ -6,9 +6,9 @@ use cb_dcsc::{Block, BlockFault};
 use cb_grid::{Grid, Side};
 use cb_layout::{DistributedMatrix, Segments, gather};
 use cb_matrix::{Entry, LIMIT, Matrix};
+use cb_plan_vectors::{gather_result, scatter_input};
 use cb_samples::{SampleFault, entry};
 use cb_semirings::PlusTimes;
-use cb_vector_pieces::{gather_result, scatter_input};
 use std::alloc::{AllocError, Global};
 use std::test::Fail;
 

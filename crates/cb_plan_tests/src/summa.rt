@@ -2,8 +2,8 @@
 use crate::kernels::has_acts_or_no_memory;
 use crate::samples::grid_of;
 use cb_plan::{Act, Op, Planned};
+use cb_plan_summa::{summa, summa_masked};
 use cb_samples::{SampleFault, shape};
-use cb_summa::{summa, summa_masked};
 use std::alloc::Global;
 use std::test::Fail;
 

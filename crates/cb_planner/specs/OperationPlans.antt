@@ -3,7 +3,7 @@ use Rattle.std.specs.Prelude.{◌≡◌, ℕ, List, [], ◌∷◌, All}
 use Rattle.cb_semirings.specs.Arithmetic.{Arithmetic, IsSemiring}
 use Rattle.cb_matrix.specs.Sparse.{Sparse, Extent, IsMatrix}
 use Rattle.cb_plan.specs.declared.plans.Planned.{Planned}
-use Rattle.cb_placement.specs.Answers.{Makes}
+use Rattle.cb_plan_slots.specs.Answers.{Makes}
 use Rattle.cb_operations.specs.declared.operations.Operation.{Operation}
 use Rattle.cb_operations.specs.OperationAnswers.{shape_of, answer_of, shapes_in}
 

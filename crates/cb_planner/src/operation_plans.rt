@@ -3,14 +3,14 @@ ghost use Rattle.std.specs.Prelude.{◌≡◌, length, Ok, IfOk};
 ghost use Rattle.cb_operations.specs.OperationAnswers.{operand_count_of, Agree};
 ghost use Rattle.cb_planner.specs.OperationPlans.{Computes};
 
-use cb_grid_plans::{
-    grid_add, grid_column_sums, grid_prune, grid_row_sums, grid_times, grid_transpose,
-};
 use cb_layout::Grid;
 use cb_matrix::{Shape, Test};
 use cb_operations::Operation;
 use cb_plan::{PlanFault, Planned};
-use cb_summa::{summa, summa_masked};
+use cb_plan_operations::{
+    grid_add, grid_column_sums, grid_prune, grid_row_sums, grid_times, grid_transpose,
+};
+use cb_plan_summa::{summa, summa_masked};
 use std::alloc::{AllocError, Global};
 
 /// The plan by which the ranks of a grid compute an operation on matrices of these shapes, which agree.

@@ -4,8 +4,8 @@ ghost use Rattle.cb_matrix.specs.Sparse.{IsMatrix};
 ghost use Rattle.cb_matrix.specs.Values.{product};
 ghost use Rattle.cb_operations.specs.Operands.{lent_in, list_of};
 ghost use Rattle.cb_operations.specs.OperationAnswers.{operand_count_of, Agree, answer_of, shape_of, shapes_in};
-ghost use Rattle.cb_placement.specs.Answers.{over_grid};
-ghost use Rattle.cb_placement.specs.Slots.{whole_operands};
+ghost use Rattle.cb_plan_slots.specs.Answers.{over_grid};
+ghost use Rattle.cb_plan_slots.specs.Slots.{whole_operands};
 ghost use Rattle.cb_planner.specs.OperationPlans.{Computes, placed_operands};
 ghost use Rattle.cb_planner.specs.ScatteredOperands.{IsEmptyProduct, LieOver, wholes};
 
@@ -14,8 +14,8 @@ use cb_layout::{DistributedMatrix, Grid};
 use cb_matrix::{Matrix, Shape};
 use cb_operations::{Operands, Operation};
 use cb_plan::Planned;
+use cb_plan_summa::{LEFT, MASK, RIGHT};
 use cb_semirings::Semiring;
-use cb_summa::{LEFT, MASK, RIGHT};
 use std::alloc::{AllocError, Global};
 
 /// Returns the shape of an operation's result for whole matrices. None if their shapes don't agree.

@@ -11,8 +11,8 @@ use Rattle.cb_plan.specs.declared.stores.Slot.TheVariants as slot_is
 use Rattle.cb_plan.specs.Meaning.{one}
 use Rattle.cb_plan.specs.Checks.{operands_of}
 use Rattle.cb_plan.specs.Stores.{sheet_of, shapes_in}
-use Rattle.cb_local.specs.Slots.{MayBeDone, MayBeAdded, adding, after, after_all}
-use Rattle.cb_local.proofs.AddedProducts.{may_stay}
+use Rattle.cb_rank_work.specs.Slots.{MayBeDone, MayBeAdded, adding, after, after_all}
+use Rattle.cb_rank_work.proofs.AddedProducts.{may_stay}
 use Rattle.cb_rank.specs.Halves.{slot_at, origin_of, first_lost, loss_or_result, worked, worked_all}
 use Rattle.cb_rank.specs.Ranks.{FitOperation}
 use Rattle.cb_rank.specs.AddedProducts.{FitProduct, HasNoneLost}

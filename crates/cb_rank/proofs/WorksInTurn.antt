@@ -14,7 +14,7 @@ use Rattle.cb_plan.specs.Algebras.{shapes}
 use Rattle.cb_plan.specs.Checks.{all_below, all_filled, operands_of, shapes_agree}
 use Rattle.cb_plan.specs.Meaning.{State, act, three}
 use Rattle.cb_plan.proofs.Effects.{split}
-use Rattle.cb_local.specs.Slots.{adding}
+use Rattle.cb_rank_work.specs.Slots.{adding}
 use Rattle.cb_rank.specs.Halves.{work_result, worked, worked_all}
 use Rattle.cb_rank.specs.Ranks.{RankView, IsRank, next_half, onward, shapes_at}
 use Rattle.cb_rank.specs.Steps.{Works, WorksTimes, WorksOn}

@@ -7,7 +7,7 @@ use Rattle.cb_plan.specs.declared.acts.Half.TheVariants as half_is
 use Rattle.cb_plan.specs.declared.stores.Slot.{Slot}
 use Rattle.cb_plan.specs.declared.stores.TheConstants.{SLOTS}
 use Rattle.cb_plan.specs.Checks.{all_below, operands_of}
-use Rattle.cb_local.specs.Slots.{adding}
+use Rattle.cb_rank_work.specs.Slots.{adding}
 use Rattle.cb_rank.specs.Halves.{first_lost}
 use Rattle.cb_rank.specs.Ranks.{FitOperation}
 

@@ -3,15 +3,15 @@ ghost use Rattle.std.specs.Prelude.{◌≡◌, ◌<◌, true, false, ◌∷◌, 
 ghost use Rattle.cb_plan.specs.Checks.{all_below, operands_of};
 ghost use Rattle.cb_plan.specs.Meaning.{needs_memory, target_of};
 ghost use Rattle.cb_plan.specs.declared.stores.Slot.TheVariants.{Lost};
-ghost use Rattle.cb_local.specs.Slots.{adding};
+ghost use Rattle.cb_rank_work.specs.Slots.{adding};
 ghost use Rattle.cb_rank.specs.AddedProducts.{FitProduct, HasNoneLost};
 ghost use Rattle.cb_rank.specs.Halves.{first_lost, reads_of, work_result, worked_all};
 ghost use Rattle.cb_rank.specs.Ranks.{FitOperation};
 
 use crate::wants::Supply;
 use cb_dcsc::Block;
-use cb_local::{accumulate_all, work};
 use cb_plan::{Op, RankStore, SLOTS, Slot};
+use cb_rank_work::{accumulate_all, work};
 use cb_semirings::Semiring;
 use std::alloc::Global;
 use std::thread;

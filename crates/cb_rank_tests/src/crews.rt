@@ -2,20 +2,20 @@
 ghost use Rattle.std.specs.Prelude.{ℕ, ◌≡◌, slice_get, IfErr, IfOk};
 ghost use Rattle.cb_semirings.specs.Tables.{plus_times};
 ghost use Rattle.cb_plan.specs.Stores.{Fits};
-ghost use Rattle.cb_ranks.specs.Finished.{LanesHold};
-ghost use Rattle.cb_ranks.specs.Views.{finished_view};
-ghost use Rattle.cb_threads.specs.Faults.{NamesLeast};
-ghost use Rattle.cb_threads.specs.declared.faults.RunFault.TheVariants.{Memory};
-ghost use Rattle.cb_crews.specs.Crews.{size};
+ghost use Rattle.cb_rank_runs.specs.Finished.{LanesHold};
+ghost use Rattle.cb_rank_runs.specs.Views.{finished_view};
+ghost use Rattle.cb_rank_threads.specs.Faults.{NamesLeast};
+ghost use Rattle.cb_rank_threads.specs.declared.faults.RunFault.TheVariants.{Memory};
+ghost use Rattle.cb_rank_crews.specs.Crews.{size};
 
 use crate::plans::{Held, doubling};
 use crate::ranks::left_at_0;
-use cb_crews::{Crew, Naming, Rings, hire};
 use cb_letters::Capacity;
 use cb_plan::{CheckedPlan, RankStore};
-use cb_ranks::{Finished, OpenGate};
+use cb_rank_crews::{Crew, Naming, Rings, hire};
+use cb_rank_runs::{Finished, OpenGate};
+use cb_rank_threads::RunFault;
 use cb_semirings::PlusTimes;
-use cb_threads::RunFault;
 use std::alloc::Global;
 use std::marker::Brand;
 use std::sync::Wait;

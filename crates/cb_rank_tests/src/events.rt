@@ -6,8 +6,8 @@ use crate::examples::{product_blocks, results, two_by_two};
 use cb_letters::Capacity;
 use cb_plan::{CheckedPlan, RankStore};
 use cb_rank::Moved;
+use cb_rank_world::{Event, World};
 use cb_semirings::PlusTimes;
-use cb_world::{Event, World};
 use std::alloc::Global;
 
 /// The world of a plan and its stores, with lanes for one letter.

@@ -7,9 +7,9 @@ use cb_dcsc::Block;
 use cb_grid::Grid;
 use cb_matrix::{Entry, Matrix};
 use cb_plan::{CheckedPlan, Planned, RankStore, SLOTS, SharedBlock, Slot};
+use cb_plan_summa::{LEFT, RESULT, RIGHT, summa};
 use cb_samples::{are_values, shape};
 use cb_semirings::PlusTimes;
-use cb_summa::{LEFT, RESULT, RIGHT, summa};
 use std::alloc::Global;
 
 /// The entry with this value in a row of a column.

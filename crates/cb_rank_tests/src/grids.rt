@@ -4,8 +4,8 @@ ghost use Rattle.std.specs.Prelude.{◌≤◌};
 use crate::events::{ends, letters, stores_of, world};
 use crate::examples::{grid, leave_product, two_by_two};
 use cb_plan::RankStore;
+use cb_rank_world::World;
 use cb_semirings::PlusTimes;
-use cb_world::World;
 use std::alloc::Global;
 
 /// The side of a grid, and how many halves and letters the product of two matrices takes on it.

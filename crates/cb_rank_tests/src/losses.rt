@@ -7,8 +7,8 @@ use crate::examples::{Held, kept, product_blocks, results, two_by_two};
 use cb_letters::Capacity;
 use cb_plan::{CheckedPlan, RankStore};
 use cb_rank::Moved;
+use cb_rank_world::{Event, World};
 use cb_semirings::PlusTimes;
-use cb_world::{Event, World};
 use std::alloc::{AllocError, Global};
 
 /// Rank 0 posts its block of the first factor, and rank 1 takes it.

@@ -1,15 +1,15 @@
 //! The ranks of a product on their own threads, which really run in parallel: some wait for each other.
 ghost use Rattle.std.specs.Prelude.{◌≡◌, ◌<◌, length};
 ghost use Rattle.cb_plan.specs.Stores.{Fits};
-ghost use Rattle.cb_ranks.specs.Views.{finished_view};
+ghost use Rattle.cb_rank_runs.specs.Views.{finished_view};
 
 use crate::examples::{product_blocks, results, two_by_two};
 use cb_letters::Capacity;
 use cb_plan::{CheckedPlan, Half, RankStore};
 use cb_rank::{Rank, Want};
-use cb_ranks::{Finished, Gate};
+use cb_rank_runs::{Finished, Gate};
+use cb_rank_threads::run_threads;
 use cb_semirings::{PlusTimes, Semiring};
-use cb_threads::run_threads;
 use std::alloc::Global;
 use std::sync::atomic::{AtomicU64, Ordering};
 use std::sync::{Mutex, Wait};

@@ -2,9 +2,9 @@
 use crate::examples::two_by_two;
 use cb_letters::Capacity;
 use cb_rank::{Rank, Want};
-use cb_ranks::Gate;
+use cb_rank_runs::Gate;
+use cb_rank_threads::run_traced;
 use cb_semirings::Semiring;
-use cb_threads::run_traced;
 use cb_trace::Trace;
 use std::alloc::Global;
 use std::sync::{Mutex, Wait};

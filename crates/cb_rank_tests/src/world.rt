@@ -1,14 +1,14 @@
 //! Worlds of two ranks with events in several orders, with ample memory, and with a post and an operation refused memory.
 ghost use Rattle.std.specs.Prelude.{List};
-ghost use Rattle.cb_world.specs.LaneCalls.{Exchange, AreCallsOf, AreTakenOnce, AreForAddressee, AreInPostingOrder, NothingAcceptedAfterClose, HasGivenOutAll};
+ghost use Rattle.cb_rank_world.specs.LaneCalls.{Exchange, AreCallsOf, AreTakenOnce, AreForAddressee, AreInPostingOrder, NothingAcceptedAfterClose, HasGivenOutAll};
 
 use crate::events::answers;
 use crate::plans::{Held, contents_at, doubling, plan_from_0, send, stores_from_0};
 use cb_letters::Capacity;
 use cb_plan::{Act, CheckedPlan, RankStore};
 use cb_rank::Moved;
+use cb_rank_world::{Event, World};
 use cb_semirings::{PlusTimes, Semiring};
-use cb_world::{Event, World};
 use std::alloc::Global;
 
 /// The world that doubles 6, with lanes for one letter.

@@ -2,3 +2,5 @@
 pub mod Exchange
 pub mod Moving
 pub mod Rows
+-- Sums: sums of columns in a matrix of one row, and the sum of all values.
+pub mod Sums

@@ -19,6 +19,7 @@ ghost use Rattle.cb_reshape.specs.Exchange.{exchanged};
 
 mod counting;
 mod parts;
+mod sums;
 
 use crate::counting::transpose_by_counting;
 use crate::parts::{Part, moved};
@@ -26,6 +27,7 @@ use cb_dcsc::Block;
 use cb_matrix::{Entry, LIMIT, Shape, in_order};
 use cb_semirings::Semiring;
 use std::alloc::{AllocError, Global};
+pub use sums::{column_sums, row_sums, total};
 
 /// The most rows for each entry of a block that has few rows.
 const ROWS_PER_ENTRY: usize = 4;

@@ -5,8 +5,8 @@
 ghost use Rattle.std.specs.Prelude.{◌≡◌, ◌<◌, ◌==◌, ◌^◌, length, IfOk};
 ghost use Rattle.cb_rings.specs.Ends.{IsNewLane, AreRows, AreColumns, AreNewLanes, IsRow};
 
+use crate::Bell;
 use crate::ring_ends::{Numbered, Poster, Taker};
-use cb_bells::Bell;
 use cb_letters::{Capacity, Letter};
 use rtrb::RingBuffer;
 use std::alloc::{AllocError, Global};

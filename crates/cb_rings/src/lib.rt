@@ -8,8 +8,10 @@
 //! [`open_lanes`] makes the lanes from each rank to each other, and takes all memory. No later call takes any.
 #![tactic(auto)]
 
+mod bells;
 mod lane_rows;
 mod ring_ends;
 
+pub use bells::{Bell, Look, RingEnd, wait_at};
 pub use lane_rows::{Column, Row, open_lanes};
 pub use ring_ends::{Numbered, Poster, Taker};

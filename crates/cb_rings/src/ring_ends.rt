@@ -4,7 +4,7 @@ ghost use Rattle.cb_letters.specs.Posted.{ends_closed, NothingAfterClose};
 ghost use Rattle.rtrb.specs.Ring.{sent, received};
 ghost use Rattle.cb_rings.specs.Numbers.{IsNext, AreNumbered};
 
-use cb_bells::{Bell, wait_at};
+use crate::{Bell, wait_at};
 use cb_letters::{Body, Letter, PostRefusal, Tag, Taken};
 use rtrb::{Consumer, Producer, Protocol, PushError};
 use std::alloc::Global;

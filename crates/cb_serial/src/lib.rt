@@ -2,7 +2,7 @@
 //! refused.
 //!
 //! The cost of an operation is that of its kernel, which is proportional to entries and never to a dimension: see
-//! [`cb_product`], [`cb_dense`], [`cb_masked`], [`cb_reshape`], [`cb_reductions`] and [`cb_elementwise`].
+//! [`cb_product`], [`cb_dense`], [`cb_masked`], [`cb_reshape`], [`cb_reshape`] and [`cb_elementwise`].
 #![tactic(auto)]
 
 ghost use Rattle.std.specs.Prelude.{◌≡◌, [], ◌∷◌, length, IfOk};
@@ -30,8 +30,8 @@ pub fn unary<S: Semiring>(
 {
     match operation {
         Operation::Transpose => cb_reshape::transpose(alloc, a),
-        Operation::RowSums => cb_reductions::row_sums(alloc, a),
-        Operation::ColumnSums => cb_reductions::column_sums(alloc, a),
+        Operation::RowSums => cb_reshape::row_sums(alloc, a),
+        Operation::ColumnSums => cb_reshape::column_sums(alloc, a),
         Operation::Prune(test) => cb_elementwise::prune(alloc, a, test),
         _ => unreachable!(),
     }

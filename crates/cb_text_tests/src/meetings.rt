@@ -1,5 +1,5 @@
 //! Gates at which threads wait a while for one another.
-use cb_turns::gates::Gate;
+use cb_job_threads::gates::Gate;
 use std::sync::atomic::{AtomicBool, AtomicUsize, Ordering};
 
 /// How often a thread checks for another one at the gate.

@@ -3,14 +3,14 @@ ghost use Rattle.std.specs.Prelude.{◌≡◌, IfSome, vec_len};
 
 use crate::meetings::{Delay, Meeting};
 use cb_dcsc::Block;
+use cb_job_ends::texts::Text;
 use cb_job_inputs::inputs::read_two;
 use cb_job_inputs::reading::{Pieces, read_in_pieces, read_side_by_side};
+use cb_job_threads::gates::{Gate, OpenGate};
 use cb_layout::{DistributedMatrix, Grid};
 use cb_market::{Kind, ReadFault, parted, read};
 use cb_market_pages::text;
-use cb_outcomes::texts::Text;
 use cb_semirings::PlusTimes;
-use cb_turns::gates::{Gate, OpenGate};
 use std::alloc::{AllocError, Global};
 use std::thread::Threads;
 

@@ -1,12 +1,12 @@
 -- The jobs of the program, their answers, and the reasons why there is none.
 use Rattle.std.specs.Prelude.{ℕ, ◌≡◌, List}
-use Rattle.cb_words.specs.declared.jobs.EngineName.TheVariants.{Plain}
-use Rattle.cb_words.specs.declared.jobs.Job.{Job}
-use Rattle.cb_words.specs.declared.tasks.GraphTask.{GraphTask}
-use Rattle.cb_words.specs.declared.tasks.Task.TheVariants.{Graph}
-use Rattle.cb_outcomes.specs.declared.faults.JobFault.{JobFault}
-use Rattle.cb_graph_tasks.specs.GraphTasks.{IsGraphAnswer, IsGraphFault}
-use Rattle.cb_endings.specs.Parts.{IsPartAnswer, IsPartFault}
+use Rattle.cb_command_line.specs.declared.jobs.EngineName.TheVariants.{Plain}
+use Rattle.cb_command_line.specs.declared.jobs.Job.{Job}
+use Rattle.cb_command_line.specs.declared.tasks.GraphTask.{GraphTask}
+use Rattle.cb_command_line.specs.declared.tasks.Task.TheVariants.{Graph}
+use Rattle.cb_job_ends.specs.declared.faults.JobFault.{JobFault}
+use Rattle.cb_job_graphs.specs.GraphTasks.{IsGraphAnswer, IsGraphFault}
+use Rattle.cb_job_runs.specs.Parts.{IsPartAnswer, IsPartFault}
 
 -- a job asks for a task on a graph, without ranks
 abbrev pub Asks : Job → GraphTask → Type 0

@@ -3,18 +3,18 @@
 #![tactic(auto)]
 
 ghost use Rattle.std.specs.Prelude.{◌≡◌, IfSome, None};
-ghost use Rattle.cb_words.specs.declared.tasks.GraphTask.{GraphTask};
+ghost use Rattle.cb_command_line.specs.declared.tasks.GraphTask.{GraphTask};
 ghost use Rattle.cbgrid_graphs.specs.GraphJobs.{Asks, IsJobAnswer, IsJobFault};
 
-use cb_endings::endings::Status;
-use cb_endings::runs::Program;
-use cb_endings::system_files::SystemFiles;
-use cb_endings::system_runs::run_on_system;
-use cb_graph_tasks::graph_tasks::execute_graph_task;
-use cb_outcomes::faults::JobFault;
-use cb_outcomes::sinks::Sink;
-use cb_outcomes::texts::Text;
-use cb_words::{EngineName, GraphTask, Job, Task};
+use cb_command_line::{EngineName, GraphTask, Job, Task};
+use cb_job_ends::faults::JobFault;
+use cb_job_ends::sinks::Sink;
+use cb_job_ends::texts::Text;
+use cb_job_graphs::graph_tasks::execute_graph_task;
+use cb_job_runs::endings::Status;
+use cb_job_runs::runs::Program;
+use cb_job_runs::system_files::SystemFiles;
+use cb_job_runs::system_runs::run_on_system;
 use std::alloc::Global;
 use std::thread::Threads;
 

@@ -2,14 +2,14 @@
 use Rattle.std.specs.Prelude.{ℕ, ◌≡◌, List, true}
 use Rattle.cb_semirings.specs.Names.{arithmetic_of}
 use Rattle.cb_semirings.specs.declared.names.SemiringName.{SemiringName}
-use Rattle.cb_words.specs.Jobs.{is_distributive}
-use Rattle.cb_words.specs.declared.jobs.EngineName.TheVariants.{Plain}
-use Rattle.cb_words.specs.declared.jobs.Job.{Job}
-use Rattle.cb_words.specs.declared.tasks.SelectionTask.{SelectionTask}
-use Rattle.cb_words.specs.declared.tasks.Task.TheVariants as task_is
-use Rattle.cb_outcomes.specs.declared.faults.JobFault.{JobFault}
-use Rattle.cb_selection_tasks.specs.SelectionAnswers.{IsSelectionAnswer, IsSelectionFault}
-use Rattle.cb_endings.specs.Parts.{IsPartAnswer, IsPartFault}
+use Rattle.cb_command_line.specs.Jobs.{is_distributive}
+use Rattle.cb_command_line.specs.declared.jobs.EngineName.TheVariants.{Plain}
+use Rattle.cb_command_line.specs.declared.jobs.Job.{Job}
+use Rattle.cb_command_line.specs.declared.tasks.SelectionTask.{SelectionTask}
+use Rattle.cb_command_line.specs.declared.tasks.Task.TheVariants as task_is
+use Rattle.cb_job_ends.specs.declared.faults.JobFault.{JobFault}
+use Rattle.cb_job_selections.specs.SelectionAnswers.{IsSelectionAnswer, IsSelectionFault}
+use Rattle.cb_job_runs.specs.Parts.{IsPartAnswer, IsPartFault}
 
 -- what the program can do: a selection over a semiring
 abbrev pub Done : Type 0

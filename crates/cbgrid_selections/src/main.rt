@@ -5,16 +5,16 @@
 ghost use Rattle.std.specs.Prelude.{◌≡◌, IfSome, None};
 ghost use Rattle.cbgrid_selections.specs.SelectionJobs.{Asks, Done, IsJobAnswer, IsJobFault};
 
-use cb_endings::endings::Status;
-use cb_endings::runs::Program;
-use cb_endings::system_files::SystemFiles;
-use cb_endings::system_runs::run_on_system;
-use cb_outcomes::faults::JobFault;
-use cb_outcomes::sinks::Sink;
-use cb_outcomes::texts::Text;
-use cb_selection_tasks::named_selections::execute_distributive_selection;
+use cb_command_line::{EngineName, Job, SelectionTask, Task, is_distributive};
+use cb_job_ends::faults::JobFault;
+use cb_job_ends::sinks::Sink;
+use cb_job_ends::texts::Text;
+use cb_job_runs::endings::Status;
+use cb_job_runs::runs::Program;
+use cb_job_runs::system_files::SystemFiles;
+use cb_job_runs::system_runs::run_on_system;
+use cb_job_selections::named_selections::execute_distributive_selection;
 use cb_semirings::SemiringName;
-use cb_words::{EngineName, Job, SelectionTask, Task, is_distributive};
 use std::alloc::Global;
 use std::thread::Threads;
 

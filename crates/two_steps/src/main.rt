@@ -3,11 +3,11 @@
 #![tactic(auto)]
 
 use anyhow::Context;
-use cb_engines::Engine;
 use cb_layout::Grid;
 use cb_matrix::{Entry, Matrix, Shape};
 use cb_operations::{Operands, Operation};
-use cb_run::run_matrices;
+use cb_rank_engines::Engine;
+use cb_rank_operations::run_matrices;
 use cb_semirings::PlusTimes;
 
 /// An edge is an entry with value 1.

@@ -5,9 +5,9 @@ ghost use Rattle.cb_plan.specs.Stores.{sheets_in};
 
 use crate::plan::{checked, plan_of, row_at_0, small, two_stores};
 use cb_dcsc::Block;
-use cb_local::{run_plain, work};
 use cb_matrix::{Entry, Shape};
 use cb_plan::{CheckedPlan, Op, Plan, PlanFaultKind, RankStore, SharedBlock, Slot, Start};
+use cb_rank_work::{run_plain, work};
 use cb_samples::{entry, shape};
 use cb_semirings::PlusTimes;
 use std::alloc::{AllocError, Global};

@@ -4,9 +4,9 @@ ghost use Rattle.cb_plan.specs.Plans.{IsElsewhere};
 
 use crate::plan::{grown, send, shut};
 use crate::samples::entries;
-use cb_local::run_plain;
 use cb_matrix::{Entry, Test};
 use cb_plan::{Act, CheckedPlan, Op, RankStore, SLOTS, Slot, Start};
+use cb_rank_work::run_plain;
 use cb_samples::{SampleFault, block, shape};
 use cb_semirings::PlusTimes;
 use std::alloc::Global;

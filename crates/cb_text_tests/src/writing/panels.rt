@@ -2,11 +2,11 @@
 use crate::market::pages;
 use crate::writing::rounds;
 use cb_dcsc::Block;
+use cb_job_ends::faults::JobFault;
 use cb_job_output::rounds::Form;
 use cb_layout::{Grid, PanelledMatrix};
 use cb_market::{Kind, read_distributed};
 use cb_market_pages::TextPages;
-use cb_outcomes::faults::JobFault;
 use cb_panels::{Panels, multiply_panels};
 use cb_semirings::PlusTimes;
 use std::alloc::{AllocError, Global};

@@ -1,17 +1,17 @@
 //! The rounds of a text: together they are the whole text.
 use crate::market::pages::{EMPTY, FAR, GIVEN};
 use cb_dcsc::Block;
+use cb_job_ends::faults::JobFault;
+use cb_job_ends::sinks::WriterSink;
 use cb_job_output::output::{put_in_rounds, put_text_and_lines};
 use cb_job_output::rounds::Form;
+use cb_job_threads::gates::Gate;
 use cb_layout::{DistributedMatrix, Grid};
 use cb_market::{Kind, read_distributed};
 use cb_market_pages::{TextPages, text};
 use cb_matrix::{Entry, Matrix, Shape};
-use cb_outcomes::faults::JobFault;
-use cb_outcomes::sinks::WriterSink;
 use cb_samples::are_values;
 use cb_semirings::PlusTimes;
-use cb_turns::gates::Gate;
 use std::alloc::Global;
 use std::sync::atomic::{AtomicUsize, Ordering};
 use std::thread::Threads;

@@ -1,13 +1,13 @@
 //! Shares are written at the same time, by whoever is free.
 use crate::meetings::{Delay, Meeting};
+use cb_job_ends::sinks::WriterSink;
 use cb_job_output::output::put_in_rounds;
 use cb_job_output::rounds::Form;
+use cb_job_threads::gates::Gate;
 use cb_layout::Grid;
 use cb_market::read_distributed;
 use cb_market_pages::TextPages;
-use cb_outcomes::sinks::WriterSink;
 use cb_semirings::PlusTimes;
-use cb_turns::gates::Gate;
 use std::alloc::Global;
 use std::thread::Threads;
 

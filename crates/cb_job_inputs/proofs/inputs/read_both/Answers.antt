@@ -2,7 +2,7 @@ use Rattle.std.proofs.Common.{sym, subst, refl, arith, IfOk, IfErr}
 use Rattle.std.proofs.lemmas.Result.{err_from_is_err_and}
 use Rattle.cb_market_lines.specs.Reads.{Reads}
 use Rattle.cb_job_inputs.specs.Inputs.{IsMatrixText, IsTextFault, arithmetic_at}
-use Rattle.cb_outcomes.specs.Texts.{text_at}
+use Rattle.cb_job_ends.specs.Texts.{text_at}
 use Rattle.cb_job_inputs.proofs.OperandLemmas.{at_first, text_count, text_taken}
 use Rattle.cb_job_inputs.proofs.ReadFaults.{fault_at}
 use Rattle.cb_job_inputs.proofs.inputs.read_both.Goals as goal

@@ -2,7 +2,7 @@ use Rattle.std.proofs.Common.{◌≡◌, true, ◌++◌, take}
 use Rattle.std.specs.Prelude.{All}
 use Rattle.cb_market.specs.Pieces.{is_whole}
 use Rattle.cb_job_inputs.specs.TextPieces.{in_a_row}
-use Rattle.cb_outcomes.specs.Texts.{joined}
+use Rattle.cb_job_ends.specs.Texts.{joined}
 use Rattle.cb_job_inputs.proofs.pieces.cut_parts.Given as goal
 
 -- the pieces so far and the last part are the parts so far, and each piece ends with a line

@@ -1,6 +1,6 @@
 use Rattle.std.proofs.Common.{List, ℕ, ◌++◌, ap, subst}
 use Rattle.cb_layout.specs.Distributed.{Distributed}
-use Rattle.cb_outcomes.specs.WriteEnds.{IsTextEnd}
+use Rattle.cb_job_ends.specs.WriteEnds.{IsTextEnd}
 use Rattle.cb_job_output.proofs.BaseTexts.{text_too}
 use Rattle.cb_job_output.proofs.output.put_blocks_and_lines.Goals as goal
 

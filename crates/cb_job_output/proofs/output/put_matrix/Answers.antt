@@ -1,5 +1,5 @@
 use Rattle.std.proofs.Common.{List, ℕ, subst}
-use Rattle.cb_outcomes.specs.WriteEnds.{IsTextEnd}
+use Rattle.cb_job_ends.specs.WriteEnds.{IsTextEnd}
 use Rattle.cb_job_output.proofs.BaseTexts.{text_too}
 use Rattle.cb_job_output.proofs.output.put_matrix.Goals as goal
 

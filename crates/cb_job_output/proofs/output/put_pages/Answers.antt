@@ -1,5 +1,5 @@
 use Rattle.std.proofs.Common.{◌++◌, [], refl, ap, sym, ◌∙◌}
-use Rattle.cb_outcomes.proofs.SinkLemmas.{appends_none, appends_page, prefix_page, on_err}
+use Rattle.cb_job_ends.proofs.SinkLemmas.{appends_none, appends_page, prefix_page, on_err}
 use Rattle.cb_job_output.proofs.output.put_pages.Goals as goal
 
 pub loop-out-init : goal.loop-out-init

@@ -1,5 +1,5 @@
 use Rattle.std.proofs.Common.{◌≡◌, ◌<◌, length, get_or, rules}
-use Rattle.cb_outcomes.proofs.SinkLemmas.{on_err}
+use Rattle.cb_job_ends.proofs.SinkLemmas.{on_err}
 use Rattle.cb_job_output.proofs.SharePuts.{share_begun}
 use Rattle.cb_job_output.proofs.output.put_round.Goals as goal
 

@@ -2,8 +2,8 @@ use Rattle.std.proofs.Common.{rules, ◌≡◌, ◌*◌, ◌<◌, ◌++◌, sym,
 use Rattle.std.specs.Prelude.{All}
 use Rattle.cb_plan.specs.declared.acts.Start.{Start}
 use Rattle.cb_plan.specs.Checks.{plan_fault}
-use Rattle.cb_collectives.specs.Collectives.{shut_acts}
-use Rattle.cb_collectives.specs.Appends.{IsRefusal}
+use Rattle.cb_plan_parts.specs.Collectives.{shut_acts}
+use Rattle.cb_plan_parts.specs.Appends.{IsRefusal}
 use Rattle.cb_plan_parts.proofs.Flows.{flows_check}
 use Rattle.cb_plan_parts.proofs.LoopGrowth.{only_memory}
 use Rattle.cb_plan_parts.proofs.endings.finish.Goals as goal

@@ -1,6 +1,6 @@
 use Rattle.std.proofs.Common.{rules, ◌≡◌, ◌∙◌, map}
-use Rattle.cb_local.specs.Slots.{adding, after_all}
-use Rattle.cb_local.proofs.AddedProducts.{sum_inside}
+use Rattle.cb_rank_work.specs.Slots.{adding, after_all}
+use Rattle.cb_rank_work.proofs.AddedProducts.{sum_inside}
 use Rattle.cb_rank.proofs.ProductsInTurn.{may_be_added, added_in_turn}
 use Rattle.cb_rank.proofs.operations.operate_all.Goals as goal
 

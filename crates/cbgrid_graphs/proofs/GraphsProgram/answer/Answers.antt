@@ -1,5 +1,5 @@
-use Rattle.cb_endings.proofs.PartEnds.{part_end}
-use Rattle.cb_graph_tasks.specs.GraphTasks.{IsGraphAnswer, IsGraphFault}
+use Rattle.cb_job_runs.proofs.PartEnds.{part_end}
+use Rattle.cb_job_graphs.specs.GraphTasks.{IsGraphAnswer, IsGraphFault}
 use Rattle.cbgrid_graphs.specs.GraphJobs.{Asks}
 use Rattle.cbgrid_graphs.proofs.GraphsProgram.answer.Goals as goal
 

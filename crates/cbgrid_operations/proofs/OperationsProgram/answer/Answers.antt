@@ -1,4 +1,4 @@
-use Rattle.cb_endings.proofs.PartEnds.{part_end}
+use Rattle.cb_job_runs.proofs.PartEnds.{part_end}
 use Rattle.cbgrid_operations.specs.OperationJobs.{Asks, IsDoneAnswer, IsDoneFault}
 use Rattle.cbgrid_operations.proofs.OperationsProgram.answer.Goals as goal
 

@@ -1,4 +1,4 @@
-use Rattle.cb_endings.proofs.PartEnds.{part_end}
+use Rattle.cb_job_runs.proofs.PartEnds.{part_end}
 use Rattle.cbgrid_selections.specs.SelectionJobs.{Asks, IsDoneAnswer, IsDoneFault}
 use Rattle.cbgrid_selections.proofs.SelectionsProgram.answer.Goals as goal
 

@@ -1,5 +1,5 @@
 use Rattle.std.proofs.Common.{rules}
-use Rattle.cb_outcomes.specs.Texts.{joined}
+use Rattle.cb_job_ends.specs.Texts.{joined}
 use Rattle.cb_job_inputs.proofs.ReadPieces.{cut_of}
 use Rattle.cb_job_inputs.proofs.pieces.Cut.of.Goals as goal
 

@@ -1,9 +1,0 @@
-use Rattle.std.proofs.Common.{◌+◌, map}
-use Rattle.std.specs.List.{range_with_len}
-use Rattle.cb_collectives.specs.Appends.{Appended}
-use Rattle.cb_collectives.specs.Collectives.{member, sent}
-use Rattle.cb_collectives.proofs.exchanges.send_from.Given as goal
-
-abbrev pub invariant-loop-t : goal.invariant-loop-t
-invariant-loop-t l =
-    Appended (map (λ t. sent (member l.fn.members l.fn.s) (member l.fn.members t) l.fn.tag (l.fn.slot + t) l.fn.into) (range_with_len 0 l.t)) l.fn.plan l.plan

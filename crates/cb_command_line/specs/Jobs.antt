@@ -1,0 +1,54 @@
+-- What a job asks for.
+use Rattle.std.specs.Prelude.{◌≡◌, ◌⊎◌, ℕ, ◌+◌, Bool, true, false}
+use Rattle.clap.specs.declared.error.kind.ErrorKind.{ErrorKind}
+use Rattle.clap.specs.declared.error.kind.ErrorKind.TheVariants.{DisplayHelp, DisplayVersion}
+use Rattle.cb_semirings.specs.declared.names.SemiringName.{SemiringName}
+use Rattle.cb_semirings.specs.declared.names.SemiringName.TheVariants.{PlusTimes, MinPlus, OrAnd, MaxMin}
+use Rattle.cb_operations.specs.OperationAnswers.{operand_count_of}
+use Rattle.cb_command_line.specs.declared.lists.Lists.{Lists}
+use Rattle.cb_command_line.specs.declared.lists.Lists.TheVariants.{Rows, Columns, Both}
+use Rattle.cb_command_line.specs.declared.tasks.Task.{Task}
+use Rattle.cb_command_line.specs.declared.tasks.Task.TheVariants.{Operation, Selection, Graph}
+use Rattle.cb_command_line.specs.declared.tasks.SelectionTask.{SelectionTask}
+use Rattle.cb_command_line.specs.declared.tasks.SelectionTask.TheVariants.{Selected, Kronecker, Assign, Extract}
+use Rattle.cb_command_line.specs.declared.tasks.GraphTask.{GraphTask}
+use Rattle.cb_command_line.specs.declared.tasks.GraphTask.TheVariants.{LevelsFrom, DistancesFrom, LevelsGiven, DistancesGiven}
+
+-- whether a semiring is one in the sense of algebra, whose product distributes over its sum
+abbrev pub is_distributive : SemiringName → Bool
+is_distributive PlusTimes = true
+is_distributive MinPlus = true
+is_distributive OrAnd = true
+is_distributive MaxMin = true
+is_distributive _ = false
+
+-- how many files have a list
+abbrev pub list_count_of : Lists → ℕ
+list_count_of Rows = 1
+list_count_of Columns = 1
+list_count_of Both = 2
+
+-- how many files a selection reads
+abbrev pub selection_file_count_of : SelectionTask → ℕ
+selection_file_count_of (Selected selection) = 1
+selection_file_count_of Kronecker = 2
+selection_file_count_of (Assign corner) = 2
+selection_file_count_of (Extract lists) = 1 + list_count_of lists
+
+-- how many files a task on a graph reads
+abbrev pub graph_file_count_of : GraphTask → ℕ
+graph_file_count_of LevelsFrom = 2
+graph_file_count_of DistancesFrom = 2
+graph_file_count_of LevelsGiven = 2
+graph_file_count_of DistancesGiven = 2
+graph_file_count_of _ = 1
+
+-- how many files a task reads
+abbrev pub file_count_of : Task → ℕ
+file_count_of (Operation operation semiring) = operand_count_of operation
+file_count_of (Selection task semiring) = selection_file_count_of task
+file_count_of (Graph task) = graph_file_count_of task
+
+-- the command line asks for help, or for the version
+abbrev pub AsksForText : ErrorKind → Type 0
+AsksForText kind = (kind ≡ DisplayHelp) ⊎ (kind ≡ DisplayVersion)

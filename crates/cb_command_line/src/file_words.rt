@@ -1,0 +1,98 @@
+//! Reads the names of a job's files.
+ghost use Rattle.std.specs.Prelude.{◌≡◌, ◌+◌, IfOk, IfSome, length, map, vec_len};
+ghost use Rattle.cb_operations.specs.OperationAnswers.{operand_count_of};
+ghost use Rattle.cb_command_line.specs.Asked.{AreWordsOf, file_names, graph_file_names, list_names, operand_names, selection_file_names};
+ghost use Rattle.cb_command_line.specs.Jobs.{file_count_of, graph_file_count_of, list_count_of, selection_file_count_of};
+ghost use Rattle.cb_command_line.specs.Options.{rows_in};
+
+use crate::lists::Lists;
+use crate::options::word_of;
+use crate::tasks::{GraphTask, SelectionTask, Task};
+use cb_operations::Operation;
+use clap::ArgMatches;
+use std::alloc::{AllocError, Global};
+
+/// The arguments that name the matrices of an operation, in the order in which they are read.
+fn operands(operation: Operation) -> &'static [&'static str]
+    ensures count { length result.now ≡ operand_count_of operation }
+    ensures names { map (λ name. name.now) result.now ≡ operand_names operation }
+{
+    match operation {
+        Operation::Multiply | Operation::Add | Operation::Times => &["A", "B"],
+        Operation::MultiplyMasked => &["A", "B", "mask"],
+        Operation::MultiplyVector => &["A", "x"],
+        Operation::Transpose | Operation::RowSums | Operation::ColumnSums => &["A"],
+        Operation::Prune(_) => &["A"],
+    }
+}
+
+/// The arguments that name a matrix and the files of lists, in the order in which they are read.
+fn listed(lists: Lists) -> &'static [&'static str]
+    ensures count { length result.now ≡ 1 + list_count_of lists }
+    ensures names { map (λ name. name.now) result.now ≡ list_names lists }
+{
+    match lists {
+        Lists::Rows => &["A", "rows"],
+        Lists::Columns => &["A", "columns"],
+        Lists::Both => &["A", "rows", "columns"],
+    }
+}
+
+/// The arguments that name the files of a selection, in the order in which they are read.
+fn selected(task: SelectionTask) -> &'static [&'static str]
+    ensures count { length result.now ≡ selection_file_count_of task }
+    ensures names { map (λ name. name.now) result.now ≡ selection_file_names task }
+{
+    match task {
+        SelectionTask::Selected(_) => &["A"],
+        SelectionTask::Kronecker | SelectionTask::Assign(_) => &["A", "B"],
+        SelectionTask::Extract(lists) => listed(lists),
+    }
+}
+
+/// The arguments that name the files of a task on a graph, in the order in which they are read.
+fn searched(task: GraphTask) -> &'static [&'static str]
+    ensures count { length result.now ≡ graph_file_count_of task }
+    ensures names { map (λ name. name.now) result.now ≡ graph_file_names task }
+{
+    match task {
+        GraphTask::Levels { .. } | GraphTask::Distances { .. } | GraphTask::Parents { .. } => &[
+            "A",
+        ],
+        GraphTask::LevelsFrom | GraphTask::DistancesFrom => &["A", "s"],
+        GraphTask::LevelsGiven | GraphTask::DistancesGiven => &["A", "x"],
+        GraphTask::Components | GraphTask::Triangles | GraphTask::TriangleCounts => &["A"],
+        GraphTask::RowDegrees | GraphTask::ColumnDegrees => &["A"],
+    }
+}
+
+/// The arguments that name the files of a task, in the order in which they are read.
+pub fn arguments(task: Task) -> &'static [&'static str]
+    ensures count { length result.now ≡ file_count_of task }
+    ensures names { map (λ name. name.now) result.now ≡ file_names task }
+{
+    match task {
+        Task::Operation(operation, _) => operands(operation),
+        Task::Selection(task, _) => selected(task),
+        Task::Graph(task) => searched(task),
+    }
+}
+
+/// The files that these arguments name, or None if one of the arguments is missing.
+pub fn files_of(
+    alloc: Global,
+    found: &ArgMatches<'_>,
+    arguments: &[&str],
+) -> Result<Option<Vec<String>>, AllocError>
+    ensures count { IfOk result (λ files. IfSome files (λ v. vec_len v ≡ length arguments.now)) }
+    ensures names { IfOk result (λ files. IfSome files (AreWordsOf (map (λ name. name.now) arguments.now) (rows_in found.now))) }
+{
+    let mut files = Vec::with_capacity(alloc, arguments.len())?;
+    for argument in arguments {
+        let Some(name) = word_of(found, argument) else {
+            return Ok(None);
+        };
+        files.push(String::from_str(alloc, name)?)?;
+    }
+    Ok(Some(files))
+}

@@ -1,7 +1,0 @@
-use Rattle.std.specs.List.{range_with_len, flat_map}
-use Rattle.cb_plan_parts.specs.Growth.{Grew}
-use Rattle.cb_grid_plans.specs.VectorPlans.{works, products_at}
-use Rattle.cb_grid_plans.proofs.vector_plans.multiply_blocks.Given as goal
-
-abbrev pub invariant-loop-rank : goal.invariant-loop-rank
-invariant-loop-rank l = Grew (flat_map (λ r. works r (products_at l.fn.grid.side l.fn.a r)) (range_with_len 0 l.rank)) l.fn.plan l.plan

@@ -1,0 +1,111 @@
+//! The lines that report faults.
+ghost use Rattle.std.specs.Prelude.{◌≡◌, ◌++◌, IfOk, codes, string_bytes};
+ghost use Rattle.cb_job_runs.specs.FaultLines.{line_and_text, line_of, name_at, plain_line_of, ranks_line_of, read_line_of, shown, shown_byte, unreadable_line_of};
+
+use cb_job_ends::faults::{JobFault, RanksFault, SelectionRefusal};
+use cb_operations::Refusal;
+use std::alloc::{AllocError, Global};
+
+/// The name at this position, or an empty one.
+pub fn name_at(names: &[String], which: usize) -> &str
+    ensures { result.now ≡ name_at names.now which }
+{
+    match names.get(which) {
+        Some(name) => name.as_str(),
+        None => "",
+    }
+}
+
+/// The line of a text.
+fn line(alloc: Global, text: &str) -> Result<Vec<u8>, AllocError>
+    ensures { IfOk result (λ v. v.items ≡ plain_line_of text.now) }
+{
+    let text = format!(in alloc; "cbgrid: {text}\n")?;
+    Ok(text.into_bytes())
+}
+
+/// A byte of a name as it is shown: `?` in place of a control character.
+fn shown_byte(byte: u8) -> u8
+    ensures { result ≡ shown_byte byte }
+{
+    if byte < 32 || byte == 127 { b'?' } else { byte }
+}
+
+/// A name as it is shown.
+fn shown(alloc: Global, name: &str) -> Result<Vec<u8>, AllocError>
+    ensures { IfOk result (λ v. v.items ≡ shown name.now) }
+{
+    let bytes = name.as_bytes();
+    bytes.iter().map(|byte| shown_byte(*byte)).collect(alloc)
+}
+
+/// The line of a file with this name, with this text after the name.
+fn named_line(alloc: Global, name: &str, text: &str) -> Result<Vec<u8>, AllocError>
+    ensures { IfOk result (λ v. v.items ≡ codes "cbgrid: " ++ shown name.now ++ text.now) }
+{
+    let shown = shown(alloc, name)?;
+    let mut line = Vec::from_slice(alloc, b"cbgrid: ")?;
+    line.extend_from_slice(&shown)?;
+    line.extend_from_slice(text.as_bytes())?;
+    Ok(line)
+}
+
+/// What follows a file's name: the number of a line, and what is wrong there.
+fn line_and_text(alloc: Global, line: u64, text: &str) -> Result<String, AllocError>
+    ensures { IfOk result (λ t. string_bytes t ≡ line_and_text line text.now) }
+{
+    format!(in alloc; ":{line}: {text}\n")
+}
+
+/// The line for a fault in a file.
+fn read_line(alloc: Global, name: &str, line: u64, text: &str) -> Result<Vec<u8>, AllocError>
+    ensures { IfOk result (λ v. v.items ≡ read_line_of name.now line text.now) }
+{
+    let rest = line_and_text(alloc, line, text)?;
+    named_line(alloc, name, rest.as_str())
+}
+
+/// The line for a file that can't be opened or can't be read to its end.
+pub fn unreadable_line(alloc: Global, name: &str) -> Result<Vec<u8>, AllocError>
+    ensures { IfOk result (λ v. v.items ≡ unreadable_line_of name.now) }
+{
+    named_line(alloc, name, ": can't be read\n")
+}
+
+/// The line for ranks that failed.
+fn ranks_line(alloc: Global, fault: RanksFault) -> Result<String, AllocError>
+    ensures { IfOk result (λ text. string_bytes text ≡ ranks_line_of fault) }
+{
+    match fault {
+        RanksFault::NotStarted(rank) => format!(in alloc; "cbgrid: rank {rank} not started\n"),
+        RanksFault::Gone(rank) => format!(in alloc; "cbgrid: rank {rank} gone\n"),
+        RanksFault::TraceTorn => format!(in alloc; "cbgrid: trace torn\n"),
+        RanksFault::Lost(rank) => format!(in alloc; "cbgrid: lost at rank {rank}\n"),
+    }
+}
+
+/// The line that reports a fault of a job with these files, with its line feed. For a text that isn't a matrix it names
+/// the file and the line.
+pub fn fault_line(alloc: Global, names: &[String], fault: &JobFault) -> Result<Vec<u8>, AllocError>
+    ensures { IfOk result (λ v. v.items ≡ line_of names.now fault.now) }
+{
+    match *fault {
+        JobFault::Absent => line(alloc, "not in this program"),
+        JobFault::Read { which, fault } => {
+            read_line(alloc, name_at(names, which), fault.line, fault.kind.text())
+        }
+        JobFault::Refused(Refusal::Shapes) => line(alloc, "shapes don't agree"),
+        JobFault::Refused(Refusal::NotSquare) => line(alloc, "matrix not square"),
+        JobFault::Refused(Refusal::Source) => line(alloc, "no such source"),
+        JobFault::Unselected(SelectionRefusal::NoValue) => line(alloc, "no value of the semiring"),
+        JobFault::Unselected(SelectionRefusal::NotColumn) => line(alloc, "matrix not a column"),
+        JobFault::Unselected(SelectionRefusal::NotSquare) => line(alloc, "matrix not square"),
+        JobFault::Unselected(SelectionRefusal::TooLarge) => line(alloc, "product too large"),
+        JobFault::Unselected(SelectionRefusal::Place) => line(alloc, "part ends beyond the matrix"),
+        JobFault::Unselected(SelectionRefusal::NoRow) => line(alloc, "no such row"),
+        JobFault::Unselected(SelectionRefusal::NoColumn) => line(alloc, "no such column"),
+        JobFault::Ranks(fault) => Ok(ranks_line(alloc, fault)?.into_bytes()),
+        JobFault::Memory => line(alloc, "out of memory"),
+        JobFault::Output => line(alloc, "can't write"),
+    }
+}

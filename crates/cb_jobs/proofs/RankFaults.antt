@@ -1,0 +1,68 @@
+-- Faults of ranks as faults of jobs.
+use Rattle.std.proofs.Common.{◌≡◌, ◌∙◌, ℕ, List, Bool, false, inl, inr, refl, sym, subst}
+use Rattle.std.specs.Prelude.{Option, Some, None, Result, Err}
+use Rattle.std.specs.Io.KnownBytes.{Keeps}
+use Rattle.cb_semirings.specs.Arithmetic.{Arithmetic}
+use Rattle.cb_matrix.specs.Sparse.{Sparse}
+use Rattle.cb_market_lines.specs.Reads.{Reads}
+use Rattle.cb_operations.specs.declared.operations.Operation.{Operation}
+use Rattle.cb_operations.specs.declared.refusals.Refusal.TheVariants as refusal_is
+use Rattle.cb_rank_engines.specs.declared.engines.Engine.{Engine}
+use Rattle.cb_rank_engines.specs.declared.engine_faults.EngineFault.TheVariants as engine_is
+use Rattle.cb_layout.specs.Distributed.{Distributed}
+use Rattle.cb_rank_operations.specs.declared.operation_faults.OperationFault.{OperationFault}
+use Rattle.cb_rank_operations.specs.declared.operation_faults.OperationFault.TheVariants as operation_is
+use Rattle.cb_rank_operations.specs.Outcomes.{IsLossFor, IsRefusal}
+use Rattle.cb_rank_operations.specs.Searched.{IsWalkLoss, IsWalkRefusal}
+use Rattle.cb_job_inputs.specs.Inputs.{AreMatrices}
+use Rattle.cb_job_ends.specs.Texts.{text_at}
+use Rattle.cb_job_ends.specs.WriteEnds.{IsEnd}
+use Rattle.cb_job_ends.specs.declared.faults.JobFault.{JobFault}
+use Rattle.cb_job_ends.specs.declared.faults.JobFault.TheVariants.{Output}
+use Rattle.cb_jobs.specs.Answers.{IsRanksFaultOver, IsRanksWalkFault}
+use Rattle.cb_jobs.specs.Engines.{fault_of_operation}
+
+-- a fault of an operation by an engine
+pub of_run : (operation : Operation) (s : Arithmetic) (engine : Engine) (side : ℕ) (texts : List (List ℕ)) (ms : List Sparse) (fault : OperationFault) → AreMatrices s texts ms
+    → IsRefusal engine operation side ms fault → IsLossFor s engine operation side ms fault → IsRanksFaultOver operation s engine side texts (fault_of_operation fault)
+of_run operation s engine side texts ms (operation_is.Refused refusal_is.Shapes) are h loss = inl (ms, are, h)
+of_run operation s engine side texts ms (operation_is.Refused _) are h loss = absurd h
+of_run operation s engine side texts ms (operation_is.Failed said) are h loss = inr (ms, are, (said, h, loss, refl))
+
+-- a fault of a search by an engine
+pub of_search : (s : Arithmetic) (source : ℕ) (engine : Engine) (side : ℕ) (texts : List (List ℕ)) (a : Sparse) (fault : OperationFault) → Reads s (text_at texts 0) a
+    → IsWalkRefusal engine side a.shape source fault → IsWalkLoss engine side a source fault → IsRanksWalkFault s source engine side texts (fault_of_operation fault)
+of_search s source engine side texts a (operation_is.Refused refusal) reads h loss = inl (a, reads, h)
+of_search s source engine side texts a (operation_is.Failed said) reads h loss = inr (a, reads, (said, h, loss, refl))
+
+-- it isn't that of a sink
+not_output : (fault : OperationFault) → fault_of_operation fault ≡ Output → ⊥
+not_output (operation_is.Refused refusal) h = cc
+not_output (operation_is.Failed engine_is.Memory) h = cc
+not_output (operation_is.Failed (engine_is.NotStarted rank)) h = cc
+not_output (operation_is.Failed (engine_is.Gone rank)) h = cc
+not_output (operation_is.Failed engine_is.TraceTorn) h = cc
+not_output (operation_is.Failed (engine_is.Lost rank refusals)) h = cc
+
+keeps_itself : (written : Option (List ℕ)) → Keeps written written
+keeps_itself None = tt
+keeps_itself (Some bytes) = refl
+
+err_of : {T : Type 0} (r : Result T JobFault) (f g : JobFault) → r ≡ Err f → r ≡ Err g → f ≡ g
+err_of r f g e h = cc
+
+-- the end of a call whose search fails, before it writes
+pub end_of_search : {T : Type 0} {IsText : List ℕ → Type 0} (s : Arithmetic) (source : ℕ) (engine : Engine) (side : ℕ) (texts : List (List ℕ)) (graph : Distributed) (fault : OperationFault) (f : JobFault)
+    (written : Option (List ℕ)) (failed : Bool) → Reads s (text_at texts 0) graph.matrix → graph.side ≡ side → IsWalkRefusal engine graph.side graph.matrix.shape source fault
+    → IsWalkLoss engine graph.side graph.matrix source fault → f ≡ fault_of_operation fault → failed ≡ false → IsEnd {T = T} IsText (IsRanksWalkFault s source engine side texts) written written failed (Err f)
+end_of_search s source engine side texts graph fault f written failed reads on_side told lost is works =
+    let unwritten : f ≡ Output → ⊥ = λ e. not_output fault (sym is ∙ e) in
+    let told_there = subst (λ q. IsWalkRefusal engine q graph.matrix.shape source fault) on_side told in
+    let lost_there = subst (λ q. IsWalkLoss engine q graph.matrix source fault) on_side lost in
+    record {
+      whole = tt;
+      fault = subst (IsRanksWalkFault s source engine side texts) (sym is) (of_search s source engine side texts graph.matrix fault reads told_there lost_there);
+      nothing = λ _. keeps_itself written;
+      output = λ e. absurd (unwritten (err_of (Err f) f Output refl e));
+      failed = (λ e. absurd (unwritten (err_of (Err f) f Output refl e)), λ t. absurd cc);
+    }

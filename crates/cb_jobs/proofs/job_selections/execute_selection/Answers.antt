@@ -1,0 +1,43 @@
+use Rattle.cb_jobs.proofs.job_selections.execute_selection.Goals as goal
+
+pub returns-in-PlusTimes-over_semiring : goal.returns-in-PlusTimes-over_semiring
+returns-in-PlusTimes-over_semiring g c = rw c.in-PlusTimes-over_semiring.is c.over_semiring-put_selection.ensures
+
+pub returns-in-MinPlus-over_semiring : goal.returns-in-MinPlus-over_semiring
+returns-in-MinPlus-over_semiring g c = rw c.in-MinPlus-over_semiring.is c.over_semiring-put_selection-2.ensures
+
+pub returns-in-OrAnd-over_semiring : goal.returns-in-OrAnd-over_semiring
+returns-in-OrAnd-over_semiring g c = rw c.in-OrAnd-over_semiring.is c.over_semiring-put_selection-3.ensures
+
+pub returns-in-MaxMin-over_semiring : goal.returns-in-MaxMin-over_semiring
+returns-in-MaxMin-over_semiring g c = rw c.in-MaxMin-over_semiring.is c.over_semiring-put_selection-4.ensures
+
+pub returns-in-PlusPair-over_semiring : goal.returns-in-PlusPair-over_semiring
+returns-in-PlusPair-over_semiring g c = rw c.in-PlusPair-over_semiring.is c.over_semiring-put_selection-5.ensures
+
+pub returns-in-PlusMin-over_semiring : goal.returns-in-PlusMin-over_semiring
+returns-in-PlusMin-over_semiring g c = rw c.in-PlusMin-over_semiring.is c.over_semiring-put_selection-6.ensures
+
+pub returns-in-PlusFirst-over_semiring : goal.returns-in-PlusFirst-over_semiring
+returns-in-PlusFirst-over_semiring g c = rw c.in-PlusFirst-over_semiring.is c.over_semiring-put_selection-7.ensures
+
+pub returns-in-PlusSecond-over_semiring : goal.returns-in-PlusSecond-over_semiring
+returns-in-PlusSecond-over_semiring g c = rw c.in-PlusSecond-over_semiring.is c.over_semiring-put_selection-8.ensures
+
+pub returns-in-MinFirst-over_semiring : goal.returns-in-MinFirst-over_semiring
+returns-in-MinFirst-over_semiring g c = rw c.in-MinFirst-over_semiring.is c.over_semiring-put_selection-9.ensures
+
+pub returns-in-MinSecond-over_semiring : goal.returns-in-MinSecond-over_semiring
+returns-in-MinSecond-over_semiring g c = rw c.in-MinSecond-over_semiring.is c.over_semiring-put_selection-10.ensures
+
+pub returns-in-MaxFirst-over_semiring : goal.returns-in-MaxFirst-over_semiring
+returns-in-MaxFirst-over_semiring g c = rw c.in-MaxFirst-over_semiring.is c.over_semiring-put_selection-11.ensures
+
+pub returns-in-MaxSecond-over_semiring : goal.returns-in-MaxSecond-over_semiring
+returns-in-MaxSecond-over_semiring g c = rw c.in-MaxSecond-over_semiring.is c.over_semiring-put_selection-12.ensures
+
+pub returns-in-MaxPlus-over_semiring : goal.returns-in-MaxPlus-over_semiring
+returns-in-MaxPlus-over_semiring g c = rw c.in-MaxPlus-over_semiring.is c.over_semiring-put_selection-13.ensures
+
+pub returns-in-MinMax-over_semiring : goal.returns-in-MinMax-over_semiring
+returns-in-MinMax-over_semiring g c = rw c.in-MinMax-over_semiring.is c.over_semiring-put_selection-14.ensures

@@ -1,0 +1,87 @@
+//! Does a job on the texts of its files.
+ghost use Rattle.std.specs.Prelude.{◌≡◌, vec_len, false};
+ghost use Rattle.cb_command_line.specs.Jobs.{graph_file_count_of};
+ghost use Rattle.cb_jobs.specs.JobEnds.{IsGraphEndBy, IsJobEnd, IsSearchEnd};
+
+use crate::job_operations::execute_operation;
+use crate::job_selections::execute_selection;
+use crate::ranks::{Ranks, ranks_of};
+use crate::searches_by_ranks::{put_distances, put_levels};
+use cb_command_line::{GraphTask, Job, Task};
+use cb_job_ends::faults::JobFault;
+use cb_job_ends::sinks::Sink;
+use cb_job_ends::texts::Text;
+use cb_job_graphs::graph_tasks::execute_graph_task;
+use std::alloc::Global;
+use std::sync::Wait;
+use std::thread::Threads;
+
+/// Does a task on a graph: ranks compute levels and distances from one source; the caller's thread computes everything else.
+fn search_by<R: Threads + Wait + Sync, K: Sink>(
+    rt: &R,
+    alloc: Global,
+    ranks: &Ranks<'_>,
+    task: GraphTask,
+    texts: Vec<Text>,
+    out: &mut K,
+) -> Result<(), JobFault>
+    requires texts { vec_len texts ≡ graph_file_count_of task }
+    requires works { K.has_failed out.old ≡ false }
+    ensures { IsGraphEndBy ranks.now task texts.items (K.written out.old) (K.written out.new) (K.has_failed out.new) result }
+{
+    match task {
+        GraphTask::Levels { source } => put_levels(rt, alloc, ranks, source, texts, out),
+        GraphTask::Distances { source } => put_distances(rt, alloc, ranks, source, texts, out),
+        _ => execute_graph_task(rt, alloc, ranks.threads, task, texts, out),
+    }
+}
+
+/// Does a task on a graph, by the ranks of a job or without any.
+fn search<R: Threads + Wait + Sync, K: Sink>(
+    rt: &R,
+    alloc: Global,
+    job: &Job,
+    task: GraphTask,
+    texts: Vec<Text>,
+    out: &mut K,
+) -> Result<(), JobFault>
+    requires texts { vec_len texts ≡ graph_file_count_of task }
+    requires works { K.has_failed out.old ≡ false }
+    ensures { IsSearchEnd job.now task texts.items (K.written out.old) (K.written out.new) (K.has_failed out.new) result }
+{
+    match ranks_of(job) {
+        Some(ranks) => search_by(rt, alloc, &ranks, task, texts, out),
+        None => execute_graph_task(rt, alloc, job.threads, task, texts, out),
+    }
+}
+
+/// Reads the texts of a job's files in the job's order, computes the answer by what the job names, and writes its text. If
+/// the engine keeps a trace of an operation, a line for each event follows.
+///
+/// All memory is taken before the first byte is written: at a fault other than `Output` nothing has been written. At
+/// `Output` the sink has failed, which it has in no other case, and a beginning of the text has been written.
+///
+/// The first fault in this order is returned: a text that isn't a matrix; shapes that don't agree, a graph whose matrix
+/// isn't square, a source that isn't a vertex, or a selection that can't be made; a failure of ranks, or want of memory;
+/// `Output`. Each text is dropped once it is read, so that its memory is free for the computation.
+pub fn execute<R: Threads + Wait + Sync, K: Sink>(
+    rt: &R,
+    alloc: Global,
+    job: &Job,
+    texts: Vec<Text>,
+    out: &mut K,
+) -> Result<(), JobFault>
+    requires texts { vec_len texts ≡ vec_len job.now.files }
+    requires works { K.has_failed out.old ≡ false }
+    ensures { IsJobEnd job.now texts.items (K.written out.old) (K.written out.new) (K.has_failed out.new) result }
+{
+    match job.task {
+        Task::Operation(operation, semiring) => {
+            execute_operation(rt, alloc, job, operation, semiring, texts, out)
+        }
+        Task::Selection(task, semiring) => {
+            execute_selection(rt, alloc, job.threads, task, semiring, texts, out)
+        }
+        Task::Graph(task) => search(rt, alloc, job, task, texts, out),
+    }
+}

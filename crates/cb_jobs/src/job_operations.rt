@@ -1,0 +1,136 @@
+//! Operations on the matrices of texts, by ranks or without any.
+ghost use Rattle.std.specs.Prelude.{◌≡◌, ◌≢◌, length, vec_len, false, IfOk, IfErr};
+ghost use Rattle.cb_operations.specs.Operands.{list_of};
+ghost use Rattle.cb_operations.specs.OperationAnswers.{operand_count_of};
+ghost use Rattle.cb_rank_operations.specs.Outcomes.{LieOver, wholes};
+ghost use Rattle.cb_semirings.specs.Names.{arithmetic_of};
+ghost use Rattle.cb_job_inputs.specs.Inputs.{AreMatrices, IsReadFault};
+ghost use Rattle.cb_jobs.specs.Answers.{IsOutcomeOver, IsRanksFaultOver};
+ghost use Rattle.cb_jobs.specs.JobEnds.{IsOperationEnd, IsRanksEnd};
+
+use crate::ranks::{Ranks, job_fault, ranks_of};
+use crate::trace_lines::lines_of;
+use cb_bases::Based;
+use cb_command_line::Job;
+use cb_job_ends::faults::JobFault;
+use cb_job_ends::sinks::Sink;
+use cb_job_ends::texts::Text;
+use cb_job_inputs::inputs::{read_one, read_three, read_two};
+use cb_job_operations::operation_answers::put_operation;
+use cb_job_output::output::put_blocks_and_lines;
+use cb_layout::DistributedMatrix;
+use cb_operations::{Operands, Operation};
+use cb_rank_engines::Outcome;
+use cb_rank_operations::run;
+use cb_semirings::{SemiringName, over_semiring};
+use std::alloc::Global;
+use std::sync::Wait;
+use std::thread::Threads;
+
+/// Reads the operands of an operation into the blocks of the ranks' grid.
+fn read_operands<S: Based + Send + Sync, R: Threads + Sync>(
+    rt: &R,
+    alloc: Global,
+    ranks: &Ranks<'_>,
+    operation: Operation,
+    texts: Vec<Text>,
+) -> Result<Operands<DistributedMatrix<S>>, JobFault>
+    requires { vec_len texts ≡ operand_count_of operation }
+    ensures count { IfOk result (λ o. operand_count_of operation ≡ length (list_of o)) }
+    ensures ok { IfOk result (λ o. AreMatrices S.arithmetic texts.items (wholes (list_of o))) }
+    ensures sides { IfOk result (LieOver ranks.now.grid.side) }
+    ensures fault { IfErr result (IsReadFault S.arithmetic texts.items) }
+{
+    let (grid, threads) = (&ranks.grid, ranks.threads);
+    match operation.operand_count() {
+        1 => Ok(Operands::One(read_one(rt, alloc, grid, threads, texts)?)),
+        2 => {
+            let (left, right) = read_two(rt, alloc, grid, threads, texts)?;
+            Ok(Operands::Two(left, right))
+        }
+        _ => {
+            let (left, right, mask) = read_three(rt, alloc, grid, threads, texts)?;
+            Ok(Operands::Three(left, right, mask))
+        }
+    }
+}
+
+/// Reads the operands of an operation, and computes it by ranks.
+fn outcome_of<S: Based + Send + Sync, R: Threads + Wait + Sync>(
+    rt: &R,
+    alloc: Global,
+    ranks: &Ranks<'_>,
+    operation: Operation,
+    texts: Vec<Text>,
+) -> Result<Outcome<S>, JobFault>
+    requires { vec_len texts ≡ operand_count_of operation }
+    ensures ok { IfOk result (IsOutcomeOver operation S.arithmetic ranks.now.engine ranks.now.grid.side texts.items) }
+    ensures fault { IfErr result (IsRanksFaultOver operation S.arithmetic ranks.now.engine ranks.now.grid.side texts.items) }
+    ensures unwritten { IfErr result (λ f. f ≢ JobFault.Output) }
+{
+    let operands = read_operands::<S, R>(rt, alloc, ranks, operation, texts)?;
+    match run(rt, alloc, ranks.engine, &ranks.grid, operation, operands) {
+        Ok(outcome) => Ok(outcome),
+        Err(fault) => Err(job_fault(fault)),
+    }
+}
+
+/// Writes the result of an operation over a semiring, and then the lines of the trace if the engine keeps one.
+fn put_outcome<S: Based + Send + Sync, R: Threads + Wait + Sync, K: Sink>(
+    rt: &R,
+    alloc: Global,
+    ranks: &Ranks<'_>,
+    operation: Operation,
+    texts: Vec<Text>,
+    out: &mut K,
+) -> Result<(), JobFault>
+    requires texts { vec_len texts ≡ operand_count_of operation }
+    requires works { K.has_failed out.old ≡ false }
+    ensures { IsRanksEnd operation S.arithmetic ranks.now texts.items (K.written out.old) (K.written out.new) (K.has_failed out.new) result }
+{
+    let done = outcome_of::<S, R>(rt, alloc, ranks, operation, texts)?;
+    let Ok(lines) = lines_of(alloc, &done.trace) else {
+        return Err(JobFault::Memory);
+    };
+    let (threads, lines) = (ranks.threads, lines.as_bytes());
+    put_blocks_and_lines(rt, alloc, threads, done.answer, lines, out)
+}
+
+/// Writes the result of an operation over a semiring, and then the lines of the trace, by the ranks of a job or without any.
+fn put_operation_by<S: Based + Send + Sync, R: Threads + Wait + Sync, K: Sink>(
+    rt: &R,
+    alloc: Global,
+    job: &Job,
+    operation: Operation,
+    texts: Vec<Text>,
+    out: &mut K,
+) -> Result<(), JobFault>
+    requires texts { vec_len texts ≡ operand_count_of operation }
+    requires works { K.has_failed out.old ≡ false }
+    ensures { IsOperationEnd job.now operation S.arithmetic texts.items (K.written out.old) (K.written out.new) (K.has_failed out.new) result }
+{
+    match ranks_of(job) {
+        Some(ranks) => put_outcome::<S, R, K>(rt, alloc, &ranks, operation, texts, out),
+        None => put_operation::<S, R, K>(rt, alloc, job.threads, operation, texts, out),
+    }
+}
+
+/// Writes the result of an operation over the semiring of a name.
+pub fn execute_operation<R: Threads + Wait + Sync, K: Sink>(
+    rt: &R,
+    alloc: Global,
+    job: &Job,
+    operation: Operation,
+    semiring: SemiringName,
+    texts: Vec<Text>,
+    out: &mut K,
+) -> Result<(), JobFault>
+    requires texts { vec_len texts ≡ operand_count_of operation }
+    requires works { K.has_failed out.old ≡ false }
+    ensures { IsOperationEnd job.now operation (arithmetic_of semiring) texts.items (K.written out.old) (K.written out.new) (K.has_failed out.new) result }
+{
+    over_semiring!(
+        semiring,
+        put_operation_by::<_, R, K>(rt, alloc, job, operation, texts, out)
+    )
+}

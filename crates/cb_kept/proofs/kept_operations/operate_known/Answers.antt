@@ -1,0 +1,18 @@
+use Rattle.std.proofs.Common.{rules, subst}
+use Rattle.cb_serial.specs.Lent.{lent_in}
+use Rattle.cb_kept.specs.Kept.{AreOver}
+use Rattle.cb_kept.proofs.KeptFirsts.{none_of_kept, made_kept}
+use Rattle.cb_kept.proofs.kept_operations.operate_known.Goals as goal
+
+pub returns-in_err-made_named : goal.returns-in_err-made_named
+returns-in_err-made_named c =
+    let ks = lent_in c.args.operands.now in
+    let k = c.in_ok-semiring.ensures in
+    let memory = (none_of_kept c.args.operation ks (subst (λ n. AreOver n ks) k.first k.over) k.agree).memory in
+    search rules
+
+pub returns : goal.returns
+returns c =
+    let ks = lent_in c.args.operands.now in
+    let k = c.in_ok-semiring.ensures in
+    (none_of_kept c.args.operation ks (subst (λ n. AreOver n ks) k.first k.over) k.agree, made_kept c.args.operation ks _ _ k.first c.in_ok-made_named.ensures)

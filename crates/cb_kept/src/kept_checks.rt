@@ -1,0 +1,88 @@
+//! The checks of calls on kept matrices. Each matrix is well formed: operands only have to agree with one another, and a graph
+//! has to be square and over the semiring of the call.
+ghost use Rattle.std.specs.Prelude.{◌≡◌, ◌↔◌, IsTrue, length, map, All, Some, IfSome, IfNone, IfOk, IfErr};
+ghost use Rattle.cb_operations.specs.OperationAnswers.{operand_count_of, Agree, shapes_in};
+ghost use Rattle.std.specs.Borrow.{Bor};
+ghost use Rattle.cb_kept.specs.declared.kept.Kept.{Kept as KeptValue};
+ghost use Rattle.cb_serial.specs.Lent.{lent_in};
+ghost use Rattle.cb_kept.specs.Kept.{AreOver, Keeps, semiring_of, semiring_in, matrix_in};
+ghost use Rattle.cb_kept.specs.KeptAnswers.{kept_faults};
+ghost use Rattle.cb_kept.specs.KeptGraphs.{kept_graph_faults};
+
+use crate::faults::Fault;
+use crate::keeping::Keep;
+use crate::kept::Kept;
+use cb_dcsc::Block;
+use cb_matrix::Shape;
+use cb_operations::Operation;
+use cb_semirings::SemiringName;
+
+/// Whether a matrix is over a semiring.
+fn is_over(kept: &Kept, semiring: SemiringName) -> bool
+    ensures { IsTrue result ↔ (semiring_of kept.now ≡ semiring) }
+{
+    kept.semiring() == semiring
+}
+
+/// Whether all operands are over a semiring.
+fn are_over(semiring: SemiringName, operands: &[&Kept]) -> bool
+    ensures { IsTrue result ↔ All (λ (k : Bor KeptValue). semiring_of k.now ≡ semiring) operands.now }
+{
+    operands.iter().all(|kept| is_over(kept, semiring))
+}
+
+/// The shape of an operation's result, or none if the operands' shapes don't agree.
+fn made_shape(operation: Operation, operands: &[&Kept]) -> Option<Shape>
+    requires { length operands.now ≡ operand_count_of operation }
+    ensures agree { IfSome result (λ _. Agree operation (shapes_in (map matrix_in (lent_in operands.now)))) }
+    ensures none { IfNone result (¬ Agree operation (shapes_in (map matrix_in (lent_in operands.now)))) }
+{
+    match operands {
+        [a] => operation.shape_of(&[a.shape()]),
+        [a, b] => operation.shape_of(&[a.shape(), b.shape()]),
+        [a, b, c] => operation.shape_of(&[a.shape(), b.shape(), c.shape()]),
+        _ => unreachable!(),
+    }
+}
+
+/// The semiring of an operation's operands, if all are over one and their shapes agree; or else the first fault.
+#[tactic(auto, using(crate::proofs::KeptFirsts::some_operand, crate::proofs::KeptFirsts::first_semiring))]
+pub(crate) fn common_semiring(
+    operation: Operation,
+    operands: &[&Kept],
+) -> Result<SemiringName, Fault>
+    requires { length operands.now ≡ operand_count_of operation }
+    ensures first { IfOk result (λ name. name ≡ semiring_in (lent_in operands.now)) }
+    ensures over { IfOk result (λ name. AreOver name (lent_in operands.now)) }
+    ensures agree { IfOk result (λ _. Agree operation (shapes_in (map matrix_in (lent_in operands.now)))) }
+    ensures fault { IfErr result (kept_faults (Some operation) (lent_in operands.now)) }
+{
+    let [first, ..] = operands else {
+        unreachable!()
+    };
+    let semiring = first.semiring();
+    if !are_over(semiring, operands) {
+        return Err(Fault::Mixed);
+    }
+    let Some(_shape) = made_shape(operation, operands) else {
+        return Err(Fault::Shapes);
+    };
+    Ok(semiring)
+}
+
+/// The block of a square graph over a semiring, or else the first fault.
+#[tactic(auto, using(crate::proofs::KeptGraphFaults::other_semiring, crate::proofs::KeptGraphFaults::other_sides))]
+pub(crate) fn square_in<S: Keep>(kept: &Kept) -> Result<&Block<S>, Fault>
+    ensures graph { IfOk result (λ graph. Keeps S.name graph.now kept.now) }
+    ensures square { IfOk result (λ graph. graph.now.shape.rows ≡ graph.now.shape.cols) }
+    ensures fault { IfErr result (kept_graph_faults S.name kept.now (λ _ _. ⊥)) }
+{
+    let Some(graph) = S::block_of(kept) else {
+        return Err(Fault::Mixed);
+    };
+    let shape = graph.shape();
+    if shape.rows() != shape.cols() {
+        return Err(Fault::NotSquare);
+    }
+    Ok(graph)
+}

@@ -1,7 +1,0 @@
-use Rattle.std.proofs.Common.{◌≡◌, replicate}
-use Rattle.cb_plan.specs.declared.stores.Slot.TheVariants.{Empty}
-use Rattle.cb_placement.proofs.placed_stores.blank.Given as goal
-
--- the stores so far
-abbrev pub invariant-loop : goal.invariant-loop
-invariant-loop g l = l.stores.items ≡ replicate l.counter (replicate 256 Empty)

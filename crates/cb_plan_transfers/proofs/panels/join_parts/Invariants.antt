@@ -1,0 +1,5 @@
+use Rattle.std.proofs.Common.{◌≡◌}
+use Rattle.cb_plan_transfers.proofs.panels.join_parts.Given as goal
+
+abbrev pub invariant-loop-i : goal.invariant-loop-i
+invariant-loop-i l = l.plan.ranks ≡ l.fn.plan.ranks

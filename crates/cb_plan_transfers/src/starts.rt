@@ -1,0 +1,64 @@
+//! The slots with which these plans begin, their sums, and their check.
+ghost use Rattle.std.specs.Prelude.{◌≡◌, ◌<◌, ◌*◌, All, AllPairs, true, IfOk};
+ghost use Rattle.std.specs.List.{range_with_len, flat_map};
+ghost use Rattle.cb_plan.specs.Plans.{IsElsewhere};
+ghost use Rattle.cb_plan_transfers.specs.WholeStarts.{whole_start};
+
+use cb_grid::Grid;
+use cb_matrix::Shape;
+use cb_plan::{Act, CheckedPlan, Op, Plan, PlanFault, SLOTS, Start};
+use std::alloc::{AllocError, Global};
+
+/// The starts by which each rank has a block of this shape in slot 0.
+pub(crate) fn whole_starts(
+    alloc: Global,
+    grid: &Grid,
+    shape: Shape,
+) -> Result<Vec<Start>, AllocError>
+    ensures exist { IfOk result (λ v. All (λ s. (s.rank < grid.now.side * grid.now.side) × (s.slot < SLOTS)) v.items) }
+    ensures once { IfOk result (λ v. AllPairs IsElsewhere v.items) }
+{
+    let mut starts = Vec::new(alloc);
+    for rank in 0..grid.ranks() {
+        starts.push(Start {
+            rank,
+            slot: 0,
+            shape,
+        })?;
+    }
+    Ok(starts)
+}
+
+/// A rank adds up the blocks in this many slots, from `first` on, into the first of them.
+pub(crate) fn add_up(plan: &mut Plan, rank: u16, first: u16, count: u16) -> Result<(), PlanFault>
+    ensures { plan.new.ranks ≡ plan.old.ranks }
+{
+    for slot in 1..count {
+        let op = Op::Add {
+            a: first,
+            b: first.saturating_add(slot),
+            into: first,
+        };
+        plan.push(Act::Work { rank, op })?;
+    }
+    Ok(())
+}
+
+/// A plan of a grid with these starts, if it has no fault.
+pub(crate) fn checked(
+    alloc: Global,
+    grid: &Grid,
+    plan: Plan,
+    starts: &[Start],
+) -> Result<CheckedPlan, PlanFault>
+    requires ranks { plan.ranks ≡ grid.now.side * grid.now.side }
+    requires exist { All (λ s. (s.rank < grid.now.side * grid.now.side) × (s.slot < SLOTS)) starts.now }
+    requires once { AllPairs IsElsewhere starts.now }
+    ensures { IfOk result (λ checked. checked.ranks ≡ grid.now.side * grid.now.side) }
+{
+    let _ranks = grid.ranks();
+    match CheckedPlan::check(alloc, plan, starts) {
+        Ok(plan) => Ok(plan),
+        Err((_plan, fault)) => Err(fault),
+    }
+}

@@ -1,7 +1,0 @@
-use Rattle.std.specs.List.{range_with_len, flat_map}
-use Rattle.cb_summa.specs.Summa.{broadcasts}
-use Rattle.cb_plan_parts.specs.Growth.{Grew}
-use Rattle.cb_summa.proofs.products.broadcast_all.Given as goal
-
-abbrev pub invariant-loop-k : goal.invariant-loop-k
-invariant-loop-k l = Grew (flat_map (broadcasts l.fn.grid.side) (range_with_len 0 l.k)) l.fn.plan l.plan

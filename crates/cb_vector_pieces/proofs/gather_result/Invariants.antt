@@ -1,7 +1,0 @@
-use Rattle.cb_vector_pieces.specs.PieceTiles.{result_tiles, IsGathered, before_rank}
-use Rattle.cb_vector_pieces.proofs.gather_result.Given as goal
-
--- the pieces of the ranks so far
-abbrev pub invariant-loop-rank : goal.invariant-loop-rank
-invariant-loop-rank g l =
-    IsGathered g.S.Semiring.arithmetic l.fn.shape (result_tiles l.fn.grid.side l.fn.shape) (before_rank l.fn.blocks l.rank) l.entries.items

@@ -1,3 +1,0 @@
--- Vectors: cut and glue for vectors spread over all ranks. PieceTiles: what the steps of scatter and gather keep.
-pub mod Vectors
-pub mod PieceTiles

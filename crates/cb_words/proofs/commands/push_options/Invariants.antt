@@ -1,7 +1,0 @@
-use Rattle.std.proofs.Common.{◌≡◌, ◌++◌, map, take}
-use Rattle.cb_words.specs.Table.{arg_rule, choice_rule}
-use Rattle.cb_words.proofs.commands.push_options.Given as goal
-
--- one argument for each option so far
-abbrev pub invariant-loop-choice : goal.invariant-loop-choice
-invariant-loop-choice l = map arg_rule l.arguments.items ≡ map arg_rule l.initial.arguments.items ++ map choice_rule (take l.choice-index l.choices)

@@ -1,7 +1,0 @@
-use Rattle.std.proofs.Common.{◌∙◌}
-use Rattle.clap.specs.Matches.{found_of}
-use Rattle.cb_words.proofs.OptionLemmas.{there_by_rows}
-use Rattle.cb_words.proofs.options.is_there.Goals as goal
-
-pub returns : goal.returns
-returns c = c.contains_id.ensures ∙ there_by_rows (found_of c.args.found.now) c.args.option.now

@@ -1,9 +1,0 @@
--- The one rank is no stranger in the mailbox of the other.
-use Rattle.cb_world.proofs.Boxes.{known}
-use Rattle.cb_world.proofs.ends.Ends.taken.Goals as goal
-
-pub taken-requires : goal.taken-requires
-taken-requires g c =
-    let from = rw (← c.self.view_is) at c.requires.from in
-    let to = rw (← c.self.view_is) at c.requires.to in
-    (known c.self.inside.me c.self.inside.boxes.items c.args.from c.args.to c.index.result.now c.self.invariant from to c.requires.apart c.index.ensures).0

@@ -1,6 +1,0 @@
-use Rattle.std.proofs.Common.{ℕ, ◌<◌}
-use Rattle.cb_world.specs.Worlds.{CanAct}
-use Rattle.cb_world.proofs.world.World.ready.Given as goal
-
-abbrev pub invariant-loop-r : goal.invariant-loop-r
-invariant-loop-r g l = (q : ℕ) → q < l.r → ¬ CanAct l.self q
