@@ -4,18 +4,20 @@ ghost use Rattle.std.specs.Prelude.{◌↔◌, ◌<◌, All, IsTrue};
 
 use crate::samples::{has_entries, is_right_or_refused};
 use cb_dcsc::Block;
-use cb_elementwise::{add, exclude, mask, prune, times};
+use cb_elementwise::{add, mask, prune, times};
 use cb_masked::{multiply_masked, multiply_outside};
 use cb_matrix::{Entry, LIMIT, Test};
+use cb_operations::{Function, Region, Selection};
 use cb_product::multiply;
-use cb_reshape::{column_sums, cut, place, row_sums, transpose};
+use cb_reshape::{column_sums, place, row_sums, transpose};
 use cb_samples::{SampleFault, block, shape};
 use cb_selections::{
-    Function, Region, WriteBack, apply, assign, diagonal, diagonal_matrix, extract,
-    extract_columns, extract_rows, kronecker, multiply_turned, power, select, update,
+    SelectionFault, WriteBack, compute, extract, extract_columns, extract_rows, multiply_turned,
+    update,
 };
 use cb_semirings::PlusTimes;
 use std::alloc::{AllocError, Global};
+use std::num::NonZeroU32;
 
 /// Two numbers, of rows and of columns.
 type Pair = (u32, u32);
@@ -64,13 +66,32 @@ pub(crate) enum Call<'a> {
     MultiplyOutside,
 }
 
-/// The rows and columns in these ranges.
-fn part_of(alloc: Global, whole: &Block<PlusTimes>, rows: Pair, cols: Pair) -> Made {
-    let shape = whole.shape();
-    if rows.0 > rows.1 || rows.1 > shape.rows() || cols.0 > cols.1 || cols.1 > shape.cols() {
+/// The selection that a call asks for.
+fn selection_of(call: &Call<'_>) -> Option<Selection> {
+    match call {
+        Call::Select(region) => Some(Selection::Select(*region)),
+        Call::Apply(function) => Some(Selection::Apply(*function)),
+        Call::Diagonal => Some(Selection::Diagonal),
+        Call::DiagonalMatrix => Some(Selection::DiagonalMatrix),
+        Call::Power(factors) => Some(Selection::Power(NonZeroU32::new(*factors)?)),
+        Call::Cut(rows, cols) => Some(Selection::Part(*rows, *cols)),
+        Call::Kronecker => Some(Selection::Kronecker),
+        Call::Assign(corner) => Some(Selection::Assign(*corner)),
+        Call::Exclude => Some(Selection::Exclude),
+        _ => None,
+    }
+}
+
+/// A selection from some blocks.
+fn selected(alloc: Global, selection: Selection, operands: &[&Block<PlusTimes>]) -> Made {
+    if operands.len() != selection.operand_count() {
         return Err(SampleFault::Shape);
     }
-    Ok(cut(alloc, whole, rows, cols)?)
+    match compute(alloc, selection, operands) {
+        Ok(block) => Ok(block),
+        Err(SelectionFault::Refused(_)) => Err(SampleFault::Shape),
+        Err(SelectionFault::Memory) => Err(AllocError.into()),
+    }
 }
 
 /// A block in a larger one.
@@ -121,42 +142,12 @@ fn some_columns(alloc: Global, whole: &Block<PlusTimes>, cols: &[u32]) -> Made {
     Ok(extract_columns(alloc, whole, cols)?)
 }
 
-/// The block with other values.
-fn replaced(alloc: Global, whole: &Block<PlusTimes>, function: Function) -> Made {
-    if !function.fits::<PlusTimes>(whole.shape()) {
-        return Err(SampleFault::Value);
-    }
-    Ok(apply(alloc, whole, function)?)
-}
-
-/// A column on the diagonal.
-fn on_diagonal(alloc: Global, column: &Block<PlusTimes>) -> Made {
-    if column.shape().cols() != 1 {
-        return Err(SampleFault::Shape);
-    }
-    Ok(diagonal_matrix(alloc, column)?)
-}
-
-/// The product of this many equal factors.
-fn powered(alloc: Global, factor: &Block<PlusTimes>, factors: u32) -> Made {
-    let shape = factor.shape();
-    if factors == 0 || shape.rows() != shape.cols() {
-        return Err(SampleFault::Shape);
-    }
-    Ok(power(alloc, factor, factors)?)
-}
-
-/// The result of a call on a block that selects some of it.
-fn selected(alloc: Global, call: &Call<'_>, given: &Block<PlusTimes>) -> Made {
+/// The rows or columns of a block with these numbers.
+fn listed(alloc: Global, call: &Call<'_>, given: &Block<PlusTimes>) -> Made {
     match call {
-        Call::Select(region) => Ok(select(alloc, given, *region)?),
-        Call::Apply(function) => replaced(alloc, given, *function),
-        Call::Diagonal => Ok(diagonal(alloc, given)?),
-        Call::DiagonalMatrix => on_diagonal(alloc, given),
         Call::Extract(rows, cols) => extracted(alloc, given, rows, cols),
         Call::ExtractRows(rows) => some_rows(alloc, given, rows),
         Call::ExtractColumns(cols) => some_columns(alloc, given, cols),
-        Call::Power(factors) => powered(alloc, given, *factors),
         _ => Err(SampleFault::Shape),
     }
 }
@@ -168,9 +159,8 @@ fn made_of_one(alloc: Global, call: &Call<'_>, given: &Block<PlusTimes>) -> Made
         Call::RowSums => Ok(row_sums(alloc, given)?),
         Call::ColumnSums => Ok(column_sums(alloc, given)?),
         Call::Prune(test) => Ok(prune(alloc, given, *test)?),
-        Call::Cut(rows, cols) => part_of(alloc, given, *rows, *cols),
         Call::Place(sides, corner) => placed(alloc, given, *sides, *corner),
-        _ => selected(alloc, call, given),
+        _ => listed(alloc, call, given),
     }
 }
 
@@ -188,7 +178,6 @@ fn joined(
         Call::Add => Ok(add(alloc, left, right)?),
         Call::Times => Ok(times(alloc, left, right)?),
         Call::Mask => Ok(mask(alloc, left, right)?),
-        Call::Exclude => Ok(exclude(alloc, left, right)?),
         Call::Update(how) => Ok(update(alloc, *how, left, right, None)?),
         _ => Err(SampleFault::Shape),
     }
@@ -227,33 +216,6 @@ fn multiplied_turned(
     Ok(multiply_turned(alloc, left, turn_left, right, turn_right)?)
 }
 
-/// The Kronecker product of two blocks.
-fn paired(alloc: Global, left: &Block<PlusTimes>, right: &Block<PlusTimes>) -> Made {
-    let (outer, inner) = (left.shape(), right.shape());
-    let rows = u64::from(outer.rows()) * u64::from(inner.rows());
-    let cols = u64::from(outer.cols()) * u64::from(inner.cols());
-    if rows > u64::from(LIMIT) || cols > u64::from(LIMIT) {
-        return Err(SampleFault::Shape);
-    }
-    Ok(kronecker(alloc, left, right)?)
-}
-
-/// The first block with the second assigned to a part.
-fn assigned(
-    alloc: Global,
-    whole: &Block<PlusTimes>,
-    corner: Pair,
-    part: &Block<PlusTimes>,
-) -> Made {
-    let (outer, inner) = (whole.shape(), part.shape());
-    let down = u64::from(corner.0) + u64::from(inner.rows());
-    let right = u64::from(corner.1) + u64::from(inner.cols());
-    if down > u64::from(outer.rows()) || right > u64::from(outer.cols()) {
-        return Err(SampleFault::Shape);
-    }
-    Ok(assign(alloc, whole, corner, part)?)
-}
-
 /// The result of a call on two blocks.
 fn made_of_two(
     alloc: Global,
@@ -266,8 +228,6 @@ fn made_of_two(
         Call::MultiplyTurned(turn_left, turn_right) => {
             multiplied_turned(alloc, left, *turn_left, right, *turn_right)
         }
-        Call::Kronecker => paired(alloc, left, right),
-        Call::Assign(corner) => assigned(alloc, left, *corner, right),
         _ => joined(alloc, call, left, right),
     }
 }
@@ -310,6 +270,16 @@ fn made_of_three(
 
 /// The result of a call on some blocks.
 fn made_of(alloc: Global, call: &Call<'_>, operands: &[Block<PlusTimes>]) -> Made {
+    match (selection_of(call), operands) {
+        (Some(selection), [given]) => selected(alloc, selection, &[given]),
+        (Some(selection), [left, right]) => selected(alloc, selection, &[left, right]),
+        (None, _) => computed(alloc, call, operands),
+        _ => Err(SampleFault::Shape),
+    }
+}
+
+/// The result of a call that isn't a selection on some blocks.
+fn computed(alloc: Global, call: &Call<'_>, operands: &[Block<PlusTimes>]) -> Made {
     match operands {
         [given] => made_of_one(alloc, call, given),
         [left, right] => made_of_two(alloc, call, left, right),

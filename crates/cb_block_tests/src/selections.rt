@@ -3,7 +3,7 @@
 use crate::calls::{Call, Case, Given, are_right, are_right_or_refused};
 use crate::samples::entries;
 use cb_matrix::LIMIT;
-use cb_selections::{Diagonal, Function, Region};
+use cb_operations::{Diagonal, Function, Region};
 
 const TOP: u64 = u64::MAX;
 

@@ -6,8 +6,8 @@ use Rattle.clap.proofs.OnLiterals.{clap_on_literals}
 use Rattle.cb_semirings.specs.declared.names.SemiringName.TheVariants.{MinPlus, PlusTimes}
 use Rattle.cb_operations.specs.declared.operations.Operation.TheVariants.{MultiplyVector, ColumnSums}
 use Rattle.cb_command_line.specs.declared.jobs.EngineName.TheVariants.{Plain, Ranks}
-use Rattle.cb_command_line.specs.declared.selection_names.RegionName.TheVariants.{Lower}
-use Rattle.cb_command_line.specs.declared.selection_names.Selection.TheVariants.{Select}
+use Rattle.cb_operations.specs.declared.regions.Region.TheVariants.{Lower}
+use Rattle.cb_operations.specs.declared.selections.Selection.TheVariants.{Select}
 use Rattle.cb_command_line.specs.declared.tasks.GraphTask.TheVariants.{Levels}
 use Rattle.cb_command_line.specs.Asked.{engine_in, entry, graph_tasks, kept_in, operations, semiring_in}
 use Rattle.cb_command_line.specs.Lines.{joined}
@@ -39,7 +39,7 @@ spmv_task = refl
 select_words : List Text
 select_words = codes "cbgrid" ∷ codes "select" ∷ codes "a.mtx" ∷ codes "--region" ∷ codes "lower" ∷ codes "--diagonal" ∷ codes "-1" ∷ []
 
-select_task : found kept_in select_words ≡ Some (codes "select", Some (Select Lower 0 1))
+select_task : found kept_in select_words ≡ Some (codes "select", Some (Select (Lower (record { row = 1; column = 0 }))))
 unfolding clap_on_literals all_shapes joined select_words
 select_task = refl
 

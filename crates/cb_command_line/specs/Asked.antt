@@ -1,5 +1,5 @@
 -- What a command asks for by its options and files.
-use Rattle.std.specs.Prelude.{◌≡◌, ◌≤◌, ◌<◌, ◌+◌, ◌*◌, ◌||◌, ℕ, ℤ, pos, negsuc, suc, Bool, List, [], ◌∷◌, map, min, max}
+use Rattle.std.specs.Prelude.{◌≡◌, ◌≤◌, ◌<◌, ◌+◌, ◌*◌, ◌==◌, ◌||◌, ℕ, ℤ, pos, negsuc, suc, Bool, List, [], ◌∷◌, map, min, max}
 use Rattle.std.specs.Prelude.{Option, Some, None, if◌then◌else◌, MatchOption, codes, option_map, option_and_then, unwrap_or}
 use Rattle.std.specs.Prelude.{bytes_eq, string_bytes, IsSomeAnd, Vec, String}
 use Rattle.std.specs.Bool.{MatchBool}
@@ -13,22 +13,25 @@ use Rattle.cb_matrix.specs.declared.passing.Test.TheVariants.{Below, Above, Equa
 use Rattle.cb_operations.specs.declared.operations.Operation.{Operation}
 use Rattle.cb_operations.specs.declared.operations.Operation.TheVariants.{Multiply, MultiplyMasked, MultiplyVector, Transpose}
 use Rattle.cb_operations.specs.declared.operations.Operation.TheVariants.{RowSums, ColumnSums, Add, Times, Prune}
+use Rattle.cb_operations.specs.declared.selections.Selection.{Selection}
+use Rattle.cb_operations.specs.declared.selections.Selection.TheVariants.{Select, Apply, DiagonalMatrix, Power, Kronecker, Assign}
+use Rattle.cb_operations.specs.declared.selections.Selection.TheVariants as selection_is
+use Rattle.cb_operations.specs.declared.regions.Diagonal.{Diagonal}
+use Rattle.cb_operations.specs.declared.regions.Region.{Region}
+use Rattle.cb_operations.specs.declared.regions.Region.TheVariants.{Lower, Upper, On, Off}
+use Rattle.cb_operations.specs.declared.functions.Function.{Function}
+use Rattle.cb_operations.specs.declared.functions.Function.TheVariants as function
+use Rattle.cb_operations.specs.SelectionAnswers.{operand_count_of}
 use Rattle.cb_command_line.specs.Options.{integer, is_there, is_word, number, place, word}
 use Rattle.cb_command_line.specs.declared.jobs.EngineName.{EngineName}
 use Rattle.cb_command_line.specs.declared.jobs.EngineName.TheVariants.{Plain, Ranks, Traced}
 use Rattle.cb_command_line.specs.declared.jobs.Job.{Job}
 use Rattle.cb_command_line.specs.declared.lists.Lists.{Lists}
 use Rattle.cb_command_line.specs.declared.lists.Lists.TheVariants as list_of
-use Rattle.cb_command_line.specs.declared.selection_names.Selection.{Selection}
-use Rattle.cb_command_line.specs.declared.selection_names.Selection.TheVariants.{Select, Apply, Diagonal, DiagonalMatrix, Power}
-use Rattle.cb_command_line.specs.declared.selection_names.RegionName.{RegionName}
-use Rattle.cb_command_line.specs.declared.selection_names.RegionName.TheVariants.{Lower, Upper, On, Off}
-use Rattle.cb_command_line.specs.declared.selection_names.FunctionName.{FunctionName}
-use Rattle.cb_command_line.specs.declared.selection_names.FunctionName.TheVariants as function
 use Rattle.cb_command_line.specs.declared.tasks.Task.{Task}
 use Rattle.cb_command_line.specs.declared.tasks.Task.TheVariants as task
 use Rattle.cb_command_line.specs.declared.tasks.SelectionTask.{SelectionTask}
-use Rattle.cb_command_line.specs.declared.tasks.SelectionTask.TheVariants.{Selected, Kronecker, Assign, Extract}
+use Rattle.cb_command_line.specs.declared.tasks.SelectionTask.TheVariants.{Selected, Extract}
 use Rattle.cb_command_line.specs.declared.tasks.GraphTask.{GraphTask}
 use Rattle.cb_command_line.specs.declared.tasks.GraphTask.TheVariants.{Levels, Distances, LevelsFrom, DistancesFrom, LevelsGiven}
 use Rattle.cb_command_line.specs.declared.tasks.GraphTask.TheVariants.{DistancesGiven, Parents, Components, Triangles, TriangleCounts}
@@ -67,41 +70,49 @@ operations rows =
     ∷ (codes "prune", option_map Prune (test_in rows))
     ∷ []
 
--- the diagonal of `--diagonal`: how many columns it is right of the main one, and how many rows below it
-abbrev pub offsets : ℤ → ℕ × ℕ
-offsets (pos right) = (right, 0)
-offsets (negsuc more) = (0, suc more)
+-- the diagonal of a number: so many columns right of the main one, or so many rows below it
+abbrev pub diagonal_at : ℤ → Diagonal
+diagonal_at (pos right) = record { row = 0; column = right }
+diagonal_at (negsuc more) = record { row = suc more; column = 0 }
 
--- the region of `--region`
-abbrev pub regions : List (Text × Option RegionName)
-regions = (codes "lower", Some Lower) ∷ (codes "upper", Some Upper) ∷ (codes "diagonal", Some On) ∷ (codes "off-diagonal", Some Off) ∷ []
+-- the region of `--region`, by the diagonal of `--diagonal`
+abbrev pub regions : Diagonal → List (Text × Option Region)
+regions d =
+    (codes "lower", Some (Lower d)) ∷ (codes "upper", Some (Upper d)) ∷ (codes "diagonal", Some (On d)) ∷ (codes "off-diagonal", Some (Off d)) ∷ []
 
 abbrev pub kept_in : List Row → Option Selection
-kept_in rows = option_and_then (λ k. option_map (λ region. Select region (offsets k).0 (offsets k).1)
-    (choice (codes "region") regions rows)) (integer (codes "diagonal") rows)
+kept_in rows =
+    option_and_then (λ k. option_map Select (choice (codes "region") (regions (diagonal_at k)) rows)) (integer (codes "diagonal") rows)
 
--- the function of `--function`, some with the number of `--value`
-abbrev pub functions : Option ℕ → List (Text × Option FunctionName)
+-- the function of `--function`, some with the number of `--value`, which is the right factor of a product
+abbrev pub functions : Option ℕ → List (Text × Option Function)
 functions n =
     (codes "constant", option_map function.Constant n)
-    ∷ (codes "plus", option_map function.Plus n)
-    ∷ (codes "times", option_map function.Times n)
+    ∷ (codes "plus", option_map function.Sum n)
+    ∷ (codes "times", option_map function.RightProduct n)
     ∷ (codes "row", Some function.Row)
     ∷ (codes "column", Some function.Column)
     ∷ []
 
-abbrev pub function_in : List Row → Option FunctionName
+abbrev pub function_in : List Row → Option Function
 function_in rows = choice (codes "function") (functions (number 64 (codes "value") rows)) rows
 
--- the commands that select from one matrix
+-- the corner of `--row` and `--column`
+abbrev pub corner_in : List Row → Option (ℕ × ℕ)
+corner_in rows = option_and_then (λ row. option_map (λ column. (row, column)) (place (codes "column") rows))
+    (place (codes "row") rows)
+
+-- the commands that select
 abbrev pub selections : List Row → List (Text × Option Selection)
 selections rows =
     (codes "select", kept_in rows)
     ∷ (codes "apply", option_map Apply (function_in rows))
-    ∷ (codes "diagonal", Some (if is_word (codes "as") (codes "matrix") rows then DiagonalMatrix else Diagonal))
+    ∷ (codes "diagonal", Some (if is_word (codes "as") (codes "matrix") rows then DiagonalMatrix else selection_is.Diagonal))
+    ∷ (codes "kron", Some Kronecker)
+    ∷ (codes "assign", option_map Assign (corner_in rows))
     ∷ []
 
--- the command asks for a selection from one matrix; a power has as many factors as `--exponent` says
+-- the command asks for a selection; a power has as many factors as `--exponent` says
 abbrev pub AsksForSelection : Text → List Row → Selection → Type 0
 AsksForSelection command rows (Power factors) =
     (command ≡ codes "power") × (number 32 (codes "exponent") rows ≡ Some (non_zero_u32_get factors))
@@ -113,22 +124,10 @@ lists_in rows =
     if is_there (codes "rows") rows then Some (if is_there (codes "columns") rows then list_of.Both else list_of.Rows)
     else (if is_there (codes "columns") rows then Some list_of.Columns else None)
 
--- the corner of `--row` and `--column`
-abbrev pub corner_in : List Row → Option (ℕ × ℕ)
-corner_in rows = option_and_then (λ row. option_map (λ column. (row, column)) (place (codes "column") rows))
-    (place (codes "row") rows)
-
--- the commands that place one matrix in another, or select from it by files
-abbrev pub placements : List Row → List (Text × Option SelectionTask)
-placements rows =
-    (codes "kron", Some Kronecker)
-    ∷ (codes "assign", option_map Assign (corner_in rows))
-    ∷ (codes "extract", option_map Extract (lists_in rows))
-    ∷ []
-
+-- the command asks for a selection, or for rows and columns by lists
 abbrev pub AsksForSelectionTask : Text → List Row → SelectionTask → Type 0
 AsksForSelectionTask command rows (Selected selection) = AsksForSelection command rows selection
-AsksForSelectionTask command rows task = entry command (placements rows) ≡ Some task
+AsksForSelectionTask command rows (Extract lists) = (command ≡ codes "extract") × (lists_in rows ≡ Some lists)
 
 -- the commands on graphs
 abbrev pub graph_tasks : List Row → List (Text × Option GraphTask)
@@ -172,9 +171,7 @@ list_names list_of.Columns = codes "A" ∷ codes "columns" ∷ []
 list_names list_of.Both = codes "A" ∷ codes "rows" ∷ codes "columns" ∷ []
 
 abbrev pub selection_file_names : SelectionTask → List Text
-selection_file_names (Selected selection) = codes "A" ∷ []
-selection_file_names Kronecker = codes "A" ∷ codes "B" ∷ []
-selection_file_names (Assign corner) = codes "A" ∷ codes "B" ∷ []
+selection_file_names (Selected selection) = if operand_count_of selection == 1 then codes "A" ∷ [] else codes "A" ∷ codes "B" ∷ []
 selection_file_names (Extract lists) = list_names lists
 
 abbrev pub graph_file_names : GraphTask → List Text

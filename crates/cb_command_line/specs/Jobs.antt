@@ -5,12 +5,13 @@ use Rattle.clap.specs.declared.error.kind.ErrorKind.TheVariants.{DisplayHelp, Di
 use Rattle.cb_semirings.specs.declared.names.SemiringName.{SemiringName}
 use Rattle.cb_semirings.specs.declared.names.SemiringName.TheVariants.{PlusTimes, MinPlus, OrAnd, MaxMin}
 use Rattle.cb_operations.specs.OperationAnswers.{operand_count_of}
+use Rattle.cb_operations.specs.SelectionAnswers as selections
 use Rattle.cb_command_line.specs.declared.lists.Lists.{Lists}
 use Rattle.cb_command_line.specs.declared.lists.Lists.TheVariants.{Rows, Columns, Both}
 use Rattle.cb_command_line.specs.declared.tasks.Task.{Task}
 use Rattle.cb_command_line.specs.declared.tasks.Task.TheVariants.{Operation, Selection, Graph}
 use Rattle.cb_command_line.specs.declared.tasks.SelectionTask.{SelectionTask}
-use Rattle.cb_command_line.specs.declared.tasks.SelectionTask.TheVariants.{Selected, Kronecker, Assign, Extract}
+use Rattle.cb_command_line.specs.declared.tasks.SelectionTask.TheVariants.{Selected, Extract}
 use Rattle.cb_command_line.specs.declared.tasks.GraphTask.{GraphTask}
 use Rattle.cb_command_line.specs.declared.tasks.GraphTask.TheVariants.{LevelsFrom, DistancesFrom, LevelsGiven, DistancesGiven}
 
@@ -30,9 +31,7 @@ list_count_of Both = 2
 
 -- how many files a selection reads
 abbrev pub selection_file_count_of : SelectionTask → ℕ
-selection_file_count_of (Selected selection) = 1
-selection_file_count_of Kronecker = 2
-selection_file_count_of (Assign corner) = 2
+selection_file_count_of (Selected selection) = selections.operand_count_of selection
 selection_file_count_of (Extract lists) = 1 + list_count_of lists
 
 -- how many files a task on a graph reads

@@ -44,8 +44,8 @@ fn selected(task: SelectionTask) -> &'static [&'static str]
     ensures names { map (λ name. name.now) result.now ≡ selection_file_names task }
 {
     match task {
-        SelectionTask::Selected(_) => &["A"],
-        SelectionTask::Kronecker | SelectionTask::Assign(_) => &["A", "B"],
+        SelectionTask::Selected(selection) if selection.operand_count() == 1 => &["A"],
+        SelectionTask::Selected(_) => &["A", "B"],
         SelectionTask::Extract(lists) => listed(lists),
     }
 }

@@ -1,19 +1,19 @@
 //! Reads the selection of a command line.
 ghost use Rattle.std.specs.Prelude.{◌≡◌, IfSome, codes};
 ghost use Rattle.std.specs.Int.NonZero.{non_zero_u32_get};
-ghost use Rattle.cb_command_line.specs.Asked.{AsksForSelection, choice, corner_in, function_in, kept_in, lists_in, offsets, regions};
+ghost use Rattle.cb_command_line.specs.Asked.{AsksForSelection, choice, corner_in, diagonal_at, function_in, kept_in, lists_in, regions};
 ghost use Rattle.cb_command_line.specs.Options.{number, rows_in};
 
 use crate::lists::Lists;
 use crate::options::{
     has_word, integer_of, is_there, number_of, place_of, small_number_of, word_of,
 };
-use crate::selection_names::{FunctionName, RegionName, Selection};
+use cb_operations::{Diagonal, Function, Region, Selection};
 use clap::ArgMatches;
 use std::num::NonZeroU32;
 
 /// The corner of `--row` and `--column`, a row and a column, counted from 0.
-pub fn corner_of(found: &ArgMatches<'_>) -> Option<(u32, u32)>
+fn corner_of(found: &ArgMatches<'_>) -> Option<(u32, u32)>
     ensures { IfSome result (λ corner. corner_in (rows_in found.now) ≡ Some corner) }
 {
     let row = place_of(found, "row")?;
@@ -33,26 +33,33 @@ pub fn lists_of(found: &ArgMatches<'_>) -> Option<Lists>
     }
 }
 
-/// How many columns a diagonal is right of the main one, and how many rows below it. One of them is 0.
-fn offsets_of(diagonal: i64) -> Option<(u32, u32)>
-    ensures { IfSome result (λ found. offsets diagonal ≡ found) }
+/// The diagonal of a number, by its first place. A positive one is as many columns right of the main diagonal, a negative one
+/// as many rows below it.
+fn diagonal_of(number: i64) -> Option<Diagonal>
+    ensures { IfSome result (λ diagonal. diagonal_at number ≡ diagonal) }
 {
-    let distance = u32::try_from(diagonal.unsigned_abs()).ok()?;
-    if diagonal < 0 {
-        Some((0, distance))
+    let distance = u32::try_from(number.unsigned_abs()).ok()?;
+    if number < 0 {
+        Some(Diagonal {
+            row: distance,
+            column: 0,
+        })
     } else {
-        Some((distance, 0))
+        Some(Diagonal {
+            row: 0,
+            column: distance,
+        })
     }
 }
 
-fn region_of(found: &ArgMatches<'_>) -> Option<RegionName>
-    ensures { result ≡ choice (codes "region") regions (rows_in found.now) }
+fn region_of(found: &ArgMatches<'_>, diagonal: Diagonal) -> Option<Region>
+    ensures { result ≡ choice (codes "region") (regions diagonal) (rows_in found.now) }
 {
     match word_of(found, "region")? {
-        "lower" => Some(RegionName::Lower),
-        "upper" => Some(RegionName::Upper),
-        "diagonal" => Some(RegionName::On),
-        "off-diagonal" => Some(RegionName::Off),
+        "lower" => Some(Region::Lower(diagonal)),
+        "upper" => Some(Region::Upper(diagonal)),
+        "diagonal" => Some(Region::On(diagonal)),
+        "off-diagonal" => Some(Region::Off(diagonal)),
         _ => None,
     }
 }
@@ -61,25 +68,21 @@ fn region_of(found: &ArgMatches<'_>) -> Option<RegionName>
 fn kept_of(found: &ArgMatches<'_>) -> Option<Selection>
     ensures { IfSome result (λ selection. kept_in (rows_in found.now) ≡ Some selection) }
 {
-    let (right, down) = offsets_of(integer_of(found, "diagonal")?)?;
-    let region = region_of(found)?;
-    Some(Selection::Select {
-        region,
-        right,
-        down,
-    })
+    let diagonal = diagonal_of(integer_of(found, "diagonal")?)?;
+    Some(Selection::Select(region_of(found, diagonal)?))
 }
 
-fn function_of(found: &ArgMatches<'_>) -> Option<FunctionName>
+/// The function of `apply`. The number of a product is its right factor.
+fn function_of(found: &ArgMatches<'_>) -> Option<Function>
     ensures { IfSome result (λ function. function_in (rows_in found.now) ≡ Some function) }
 {
     let number = number_of(found, "value");
     match word_of(found, "function")? {
-        "constant" => Some(FunctionName::Constant(number?)),
-        "plus" => Some(FunctionName::Plus(number?)),
-        "times" => Some(FunctionName::Times(number?)),
-        "row" => Some(FunctionName::Row),
-        "column" => Some(FunctionName::Column),
+        "constant" => Some(Function::Constant(number?)),
+        "plus" => Some(Function::Sum(number?)),
+        "times" => Some(Function::RightProduct(number?)),
+        "row" => Some(Function::Row),
+        "column" => Some(Function::Column),
         _ => None,
     }
 }
@@ -106,6 +109,8 @@ pub fn selection_of(command: &str, found: &ArgMatches<'_>) -> Option<Selection>
         "diagonal" if has_word(found, "as", "matrix") => Some(Selection::DiagonalMatrix),
         "diagonal" => Some(Selection::Diagonal),
         "power" => Some(Selection::Power(factors_of(found)?)),
+        "kron" => Some(Selection::Kronecker),
+        "assign" => Some(Selection::Assign(corner_of(found)?)),
         _ => None,
     }
 }

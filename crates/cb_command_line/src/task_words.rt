@@ -4,7 +4,7 @@ ghost use Rattle.cb_command_line.specs.Asked.{AsksFor, AsksForSelectionTask, ent
 ghost use Rattle.cb_command_line.specs.Options.{rows_in};
 
 use crate::options::{has_word, is_there, number_of, place_of, word_of};
-use crate::selection_words::{corner_of, lists_of, selection_of};
+use crate::selection_words::{lists_of, selection_of};
 use crate::tasks::{GraphTask, SelectionTask, Task};
 use cb_matrix::Test;
 use cb_operations::Operation;
@@ -74,8 +74,6 @@ fn selection_task_of(command: &str, found: &ArgMatches<'_>) -> Option<SelectionT
     ensures { IfSome result (AsksForSelectionTask command.now (rows_in found.now)) }
 {
     match command {
-        "kron" => Some(SelectionTask::Kronecker),
-        "assign" => Some(SelectionTask::Assign(corner_of(found)?)),
         "extract" => Some(SelectionTask::Extract(lists_of(found)?)),
         _ => Some(SelectionTask::Selected(selection_of(command, found)?)),
     }

@@ -3,8 +3,7 @@ ghost use Rattle.std.specs.Prelude.{◌≡◌};
 ghost use Rattle.cb_command_line.specs.Jobs.{is_distributive};
 
 use crate::lists::Lists;
-use crate::selection_names::Selection;
-use cb_operations::Operation;
+use cb_operations::{Operation, Selection};
 use cb_semirings::SemiringName;
 
 /// What is computed from the files. Each kind of task has a crate that does it, and a small program.
@@ -21,12 +20,8 @@ pub enum Task {
 /// What is selected from the files' matrices. Rows and columns are counted from 0.
 #[derive(Clone, Copy, PartialEq, Eq)]
 pub enum SelectionTask {
-    /// A selection from one matrix.
+    /// A selection from the files' matrices.
     Selected(Selection),
-    /// The Kronecker product of two matrices.
-    Kronecker,
-    /// The first matrix with the second in place of the part that begins at a corner, a row and a column.
-    Assign((u32, u32)),
     /// The listed rows and columns of the first matrix. The other files have the lists.
     Extract(Lists),
 }

@@ -24,7 +24,7 @@ ghost use Rattle.cb_semirings.specs.declared.names.SemiringName.TheVariants as n
 ghost use Rattle.cb_matrix.specs.Sparse.{at};
 ghost use Rattle.cb_operations.specs.declared.operations.Operation.TheVariants as operation_is;
 ghost use Rattle.cb_operations.specs.OperationAnswers.{operand_count_of};
-ghost use Rattle.cb_serial.specs.Lent.{lent_in};
+ghost use Rattle.cb_operations.specs.Operands.{lent_in};
 ghost use Rattle.cb_searches.specs.Walks.{AreDistances, AreLevels};
 ghost use Rattle.cb_searches.specs.SeveralSources.{AreDistancesFrom, AreLevelsFrom};
 ghost use Rattle.cb_searches.specs.GivenNumbers.{AreDistancesGiven, AreLevelsGiven};

@@ -2,52 +2,10 @@
 ghost use Rattle.std.specs.Prelude.{◌≡◌};
 
 use cb_market_lines::ReadFault;
-use cb_operations::Refusal;
+use cb_operations::{Refusal, SelectionRefusal};
+use cb_rank_faults::RanksFault;
 use std::alloc::AllocError;
 use thiserror::Error;
-
-/// Why a selection or a Kronecker product of these matrices can't be made, or a part put in its place.
-#[derive(Clone, Copy, Debug, PartialEq, Eq, Error)]
-pub enum SelectionRefusal {
-    /// A number that the function takes isn't a value of the semiring.
-    #[error("no value of the semiring")]
-    NoValue,
-    /// The matrix must have exactly one column.
-    #[error("matrix not a column")]
-    NotColumn,
-    /// The matrix must be square.
-    #[error("matrix not square")]
-    NotSquare,
-    /// The Kronecker product has more rows or columns than a matrix may have.
-    #[error("product too large")]
-    TooLarge,
-    /// The part ends beyond the matrix.
-    #[error("part ends beyond the matrix")]
-    Place,
-    /// A list names a row that the matrix doesn't have, or has a place without a number.
-    #[error("no such row")]
-    NoRow,
-    /// A list names a column that the matrix doesn't have, or has a place without a number.
-    #[error("no such column")]
-    NoColumn,
-}
-
-/// Why there is no answer by ranks.
-#[derive(Clone, Copy, Debug, PartialEq, Eq, Error)]
-pub enum RanksFault {
-    /// The thread of this rank couldn't be started. It is the first such rank.
-    #[error("rank {0} not started")]
-    NotStarted(u16),
-    /// This rank used a lane whose other rank was gone. It is the least such rank.
-    #[error("rank {0} gone")]
-    Gone(u16),
-    /// The trace doesn't match what the ranks recorded.
-    #[error("trace torn")]
-    TraceTorn,
-    /// A block of the answer is lost because this rank was refused memory.
-    #[error("lost at rank {0}")]
-    Lost(u16),
-}
 
 /// Why a job has no answer, or why the answer wasn't written, in the order in which the reasons are checked.
 #[derive(Clone, Copy, Debug, PartialEq, Eq, Error)]
@@ -64,7 +22,7 @@ pub enum JobFault {
     /// The selection can't be made from the matrix, the part doesn't fit into it, or the Kronecker product is too large.
     #[error("{0}")]
     Unselected(SelectionRefusal),
-    /// The job asks for ranks, and they failed.
+    /// The job asks for ranks, and they failed, though not for lack of memory: that is `Memory`.
     #[error("{0}")]
     Ranks(RanksFault),
     /// Memory was refused, for the answer or for its text.

@@ -7,7 +7,7 @@ use Rattle.cb_market_pages.specs.Text.{text_of}
 use Rattle.cb_operations.specs.declared.refusals.Refusal.TheVariants as refusal_is
 use Rattle.cb_job_inputs.specs.Inputs.{AreWithList, IsFirstReadFault, arithmetic_at}
 use Rattle.cb_job_inputs.specs.Lists.{AreNumbersTo, IsList, numbers_in}
-use Rattle.cb_job_ends.specs.declared.faults.SelectionRefusal.TheVariants.{NotColumn}
+use Rattle.cb_operations.specs.declared.refusals.SelectionRefusal.TheVariants.{NotColumn}
 use Rattle.cb_job_ends.specs.declared.faults.JobFault.{JobFault}
 use Rattle.cb_job_ends.specs.declared.faults.JobFault.TheVariants.{Read, Refused, Unselected, Ranks, Memory, Output, Absent}
 

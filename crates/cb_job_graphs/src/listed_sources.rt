@@ -7,7 +7,7 @@ ghost use Rattle.cb_job_graphs.specs.GraphEnds.{IsWalksEnd};
 
 use cb_bases::Based;
 use cb_dcsc::Block;
-use cb_job_ends::faults::{JobFault, SelectionRefusal};
+use cb_job_ends::faults::JobFault;
 use cb_job_ends::sinks::Sink;
 use cb_job_ends::texts::Text;
 use cb_job_inputs::inputs::read_pair;
@@ -15,7 +15,7 @@ use cb_job_inputs::lists::{is_full, listed};
 use cb_job_output::output::put_matrix;
 use cb_layout::PanelledMatrix;
 use cb_matrix::{Matrix, Shape};
-use cb_operations::Refusal;
+use cb_operations::{Refusal, SelectionRefusal};
 use cb_searches::Walks;
 use cb_semirings::{MinPlus, PlusTimes};
 use std::alloc::{AllocError, Global};

@@ -4,7 +4,7 @@ ghost use Rattle.cb_matrix.specs.Values.{product};
 ghost use Rattle.cb_operations.specs.declared.operations.Operation.TheVariants.{Multiply};
 ghost use Rattle.cb_operations.specs.Operands.{list_of};
 ghost use Rattle.cb_operations.specs.OperationAnswers.{operand_count_of, Agree, answer_of, shapes_in};
-ghost use Rattle.cb_serial.specs.Lent.{lent_in};
+ghost use Rattle.cb_operations.specs.Operands.{lent_in};
 ghost use Rattle.cb_job_operations.specs.OperationTexts.{IsBlocksFault, job_fault_of};
 
 use cb_dcsc::Block;

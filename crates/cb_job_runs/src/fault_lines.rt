@@ -1,9 +1,10 @@
 //! The lines that report faults.
 ghost use Rattle.std.specs.Prelude.{◌≡◌, ◌++◌, IfOk, codes, string_bytes};
-ghost use Rattle.cb_job_runs.specs.FaultLines.{line_and_text, line_of, name_at, plain_line_of, ranks_line_of, read_line_of, shown, shown_byte, unreadable_line_of};
+ghost use Rattle.cb_rank_faults.specs.RanksFaults.{ranks_fault_text};
+ghost use Rattle.cb_job_runs.specs.FaultLines.{line_and_text, line_of, name_at, plain_line_of, read_line_of, shown, shown_byte, unreadable_line_of};
 
-use cb_job_ends::faults::{JobFault, RanksFault, SelectionRefusal};
-use cb_operations::Refusal;
+use cb_job_ends::faults::JobFault;
+use cb_rank_faults::RanksFault;
 use std::alloc::{AllocError, Global};
 
 /// The name at this position, or an empty one.
@@ -73,15 +74,11 @@ pub fn unreadable_line(alloc: Global, name: &str) -> Result<Vec<u8>, AllocError>
 }
 
 /// The line for ranks that failed.
-fn ranks_line(alloc: Global, fault: RanksFault) -> Result<String, AllocError>
-    ensures { IfOk result (λ text. string_bytes text ≡ ranks_line_of fault) }
+fn ranks_line(alloc: Global, fault: RanksFault) -> Result<Vec<u8>, AllocError>
+    ensures { IfOk result (λ v. v.items ≡ plain_line_of (ranks_fault_text fault)) }
 {
-    match fault {
-        RanksFault::NotStarted(rank) => format!(in alloc; "cbgrid: rank {rank} not started\n"),
-        RanksFault::Gone(rank) => format!(in alloc; "cbgrid: rank {rank} gone\n"),
-        RanksFault::TraceTorn => format!(in alloc; "cbgrid: trace torn\n"),
-        RanksFault::Lost(rank) => format!(in alloc; "cbgrid: lost at rank {rank}\n"),
-    }
+    let text = format!(in alloc; "cbgrid: {fault}\n")?;
+    Ok(text.into_bytes())
 }
 
 /// The line that reports a fault of a job with these files, with its line feed. For a text that isn't a matrix it names
@@ -94,17 +91,9 @@ pub fn fault_line(alloc: Global, names: &[String], fault: &JobFault) -> Result<V
         JobFault::Read { which, fault } => {
             read_line(alloc, name_at(names, which), fault.line, fault.kind.text())
         }
-        JobFault::Refused(Refusal::Shapes) => line(alloc, "shapes don't agree"),
-        JobFault::Refused(Refusal::NotSquare) => line(alloc, "matrix not square"),
-        JobFault::Refused(Refusal::Source) => line(alloc, "no such source"),
-        JobFault::Unselected(SelectionRefusal::NoValue) => line(alloc, "no value of the semiring"),
-        JobFault::Unselected(SelectionRefusal::NotColumn) => line(alloc, "matrix not a column"),
-        JobFault::Unselected(SelectionRefusal::NotSquare) => line(alloc, "matrix not square"),
-        JobFault::Unselected(SelectionRefusal::TooLarge) => line(alloc, "product too large"),
-        JobFault::Unselected(SelectionRefusal::Place) => line(alloc, "part ends beyond the matrix"),
-        JobFault::Unselected(SelectionRefusal::NoRow) => line(alloc, "no such row"),
-        JobFault::Unselected(SelectionRefusal::NoColumn) => line(alloc, "no such column"),
-        JobFault::Ranks(fault) => Ok(ranks_line(alloc, fault)?.into_bytes()),
+        JobFault::Refused(refusal) => line(alloc, refusal.text()),
+        JobFault::Unselected(refusal) => line(alloc, refusal.text()),
+        JobFault::Ranks(fault) => ranks_line(alloc, fault),
         JobFault::Memory => line(alloc, "out of memory"),
         JobFault::Output => line(alloc, "can't write"),
     }

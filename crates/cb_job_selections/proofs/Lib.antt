@@ -1,3 +1,2 @@
-mod ProductFaults
+mod SelectionFaults
 mod ListFaults
-mod PartFaults

@@ -2,11 +2,11 @@
 use Rattle.std.proofs.Common.{ℕ, List, refl}
 use Rattle.cb_semirings.specs.Arithmetic.{Arithmetic}
 use Rattle.cb_matrix.specs.Sparse.{Sparse}
-use Rattle.cb_selections.specs.Selections.{extracted, rows_by, columns_by}
+use Rattle.cb_selections.specs.Extracted.{extracted, rows_by, columns_by}
 use Rattle.cb_command_line.specs.declared.lists.Lists.TheVariants.{Rows, Columns, Both}
 use Rattle.cb_job_inputs.specs.Inputs.{AreWithList}
 use Rattle.cb_job_inputs.specs.Lists.{numbers_in}
-use Rattle.cb_job_ends.specs.declared.faults.SelectionRefusal.TheVariants.{NoRow, NoColumn}
+use Rattle.cb_operations.specs.declared.refusals.SelectionRefusal.TheVariants.{NoRow, NoColumn}
 use Rattle.cb_job_ends.specs.declared.faults.JobFault.{JobFault}
 use Rattle.cb_job_ends.specs.declared.faults.JobFault.TheVariants.{Unselected, Memory}
 use Rattle.cb_job_selections.specs.Extracts.{AreWithLists, AreListsFault, IsExtractFault, IsListFault}

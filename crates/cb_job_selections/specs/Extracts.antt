@@ -5,16 +5,16 @@ use Rattle.cb_semirings.specs.Tables.{plus_times}
 use Rattle.cb_matrix.specs.Sparse.{Sparse}
 use Rattle.cb_market_lines.specs.Reads.{Reads}
 use Rattle.cb_market_pages.specs.Text.{text_of}
-use Rattle.cb_job_ends.specs.declared.faults.SelectionRefusal.TheVariants.{NotColumn, NoRow, NoColumn}
+use Rattle.cb_operations.specs.declared.refusals.SelectionRefusal.TheVariants.{NotColumn, NoRow, NoColumn}
 use Rattle.cb_job_ends.specs.Texts.{text_at}
 use Rattle.cb_job_inputs.specs.Inputs.{AreWithList, IsFirstReadFault, arithmetic_at}
 use Rattle.cb_job_ends.specs.declared.faults.JobFault.{JobFault}
 use Rattle.cb_job_ends.specs.declared.faults.JobFault.TheVariants.{Read, Refused, Unselected, Ranks, Memory, Output, Absent}
-use Rattle.cb_selections.specs.Selections.{extracted, rows_by, columns_by}
+use Rattle.cb_selections.specs.Extracted.{extracted, rows_by, columns_by}
 use Rattle.cb_command_line.specs.declared.lists.Lists.{Lists}
 use Rattle.cb_command_line.specs.declared.lists.Lists.TheVariants.{Rows, Columns, Both}
 use Rattle.cb_job_inputs.specs.Lists.{AreNumbersTo, IsList, numbers_in}
-use Rattle.cb_job_ends.specs.declared.faults.SelectionRefusal.{SelectionRefusal}
+use Rattle.cb_operations.specs.declared.refusals.SelectionRefusal.{SelectionRefusal}
 
 -- the texts read as this matrix and these lists
 abbrev pub AreWithLists : Arithmetic → List (List ℕ) → Sparse → Sparse → Sparse → Type 0

@@ -1,4 +1,2 @@
-pub mod Selected
 pub mod Extracts
-pub mod Assignments
-pub mod SelectionAnswers
+pub mod SelectionTexts

@@ -1,12 +1,12 @@
 //! Rows and columns of the matrix of a text by their numbers, which are listed in other texts. The caller's thread makes them.
 ghost use Rattle.std.specs.Prelude.{◌≡◌, ◌≢◌, ◌+◌, vec_len, false, IfOk, IfErr, OnOk};
-ghost use Rattle.cb_selections.specs.Selections.{rows_by, columns_by};
+ghost use Rattle.cb_selections.specs.Extracted.{rows_by, columns_by};
 ghost use Rattle.cb_command_line.specs.Jobs.{list_count_of};
 ghost use Rattle.cb_command_line.specs.declared.lists.Lists.TheVariants as lists_are;
 ghost use Rattle.cb_job_inputs.specs.Lists.{IsList, numbers_in};
-ghost use Rattle.cb_job_ends.specs.declared.faults.SelectionRefusal.TheVariants.{NoRow, NoColumn};
+ghost use Rattle.cb_operations.specs.declared.refusals.SelectionRefusal.TheVariants.{NoRow, NoColumn};
 ghost use Rattle.cb_job_selections.specs.Extracts.{AreLists, AreListsFault, AreListsRefused, IsExtractFault, IsExtractOf, IsPartOf, IsListFault};
-ghost use Rattle.cb_job_selections.specs.SelectionAnswers.{IsSelectionEnd};
+ghost use Rattle.cb_job_selections.specs.SelectionTexts.{IsSelectionEnd};
 ghost use Rattle.cb_command_line.specs.declared.tasks.SelectionTask.TheVariants as task_is;
 
 use crate::list_checks::{check_list, numbers_of};
@@ -14,7 +14,7 @@ use crate::list_operands::read_with_lists;
 use cb_bases::Based;
 use cb_command_line::Lists;
 use cb_dcsc::Block;
-use cb_job_ends::faults::{JobFault, SelectionRefusal};
+use cb_job_ends::faults::JobFault;
 use cb_job_ends::sinks::Sink;
 use cb_job_ends::texts::Text;
 use cb_job_inputs::inputs::read_pair;
@@ -22,6 +22,7 @@ use cb_job_inputs::lists::listed;
 use cb_job_output::output::put_matrix;
 use cb_layout::PanelledMatrix;
 use cb_matrix::Shape;
+use cb_operations::SelectionRefusal;
 use cb_selections::{extract, extract_columns, extract_rows};
 use cb_semirings::{PlusTimes, Semiring};
 use std::alloc::Global;

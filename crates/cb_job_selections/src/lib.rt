@@ -5,10 +5,8 @@
 //! read, makes the selection and writes its text to a sink. Threads read and write; the caller's thread does everything else.
 #![tactic(auto)]
 
-mod assignment_texts;
 mod extract_texts;
 mod list_checks;
 mod list_operands;
 pub mod named_selections;
-mod selection_answers;
-mod selection_refusals;
+mod selection_texts;

@@ -5,8 +5,9 @@ ghost use Rattle.cb_job_inputs.specs.Lists.{IsList, numbers_in};
 ghost use Rattle.cb_job_selections.specs.Extracts.{IsListFault, IsListRefusal};
 
 use cb_dcsc::Block;
-use cb_job_ends::faults::{JobFault, SelectionRefusal};
+use cb_job_ends::faults::JobFault;
 use cb_job_inputs::lists::{is_full, listed};
+use cb_operations::SelectionRefusal;
 use cb_semirings::PlusTimes;
 use std::alloc::Global;
 

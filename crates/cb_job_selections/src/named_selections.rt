@@ -2,11 +2,10 @@
 ghost use Rattle.std.specs.Prelude.{◌≡◌, vec_len, true, false};
 ghost use Rattle.cb_semirings.specs.Names.{arithmetic_of};
 ghost use Rattle.cb_command_line.specs.Jobs.{is_distributive, selection_file_count_of};
-ghost use Rattle.cb_job_selections.specs.SelectionAnswers.{IsSelectionEnd};
+ghost use Rattle.cb_job_selections.specs.SelectionTexts.{IsSelectionEnd};
 
-use crate::assignment_texts::put_assigned;
 use crate::extract_texts::put_extract;
-use crate::selection_answers::{put_kronecker, put_selected};
+use crate::selection_texts::put_selected;
 use cb_bases::Based;
 use cb_command_line::SelectionTask;
 use cb_job_ends::faults::JobFault;
@@ -39,10 +38,6 @@ pub fn put_selection<S: Based + Send + Sync, R: Threads + Sync, K: Sink>(
     match task {
         SelectionTask::Selected(selection) => {
             put_selected::<S, R, K>(rt, alloc, threads, selection, texts, out)
-        }
-        SelectionTask::Kronecker => put_kronecker::<S, R, K>(rt, alloc, threads, texts, out),
-        SelectionTask::Assign(corner) => {
-            put_assigned::<S, R, K>(rt, alloc, threads, corner, texts, out)
         }
         SelectionTask::Extract(lists) => {
             put_extract::<S, R, K>(rt, alloc, threads, lists, texts, out)

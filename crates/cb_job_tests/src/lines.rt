@@ -1,16 +1,16 @@
 //! Command lines, and the lines of faults.
 use cb_command_line::EngineName::{Plain, Ranks, Traced};
-use cb_command_line::SelectionTask::{Assign, Extract, Kronecker, Selected};
+use cb_command_line::SelectionTask::{Extract, Selected};
 use cb_command_line::{
-    EngineName, FunctionName, GraphTask, Job, Lists, RegionName, Selection, SelectionTask, Task,
-    UsageFault, read_job,
+    EngineName, GraphTask, Job, Lists, SelectionTask, Task, UsageFault, read_job,
 };
-use cb_job_ends::faults::{JobFault, RanksFault, SelectionRefusal};
+use cb_job_ends::faults::JobFault;
 use cb_job_runs::fault_lines::fault_line;
 use cb_job_runs::statuses::status;
 use cb_market::{Kind, ReadFault};
 use cb_matrix::Test;
-use cb_operations::{Operation, Refusal};
+use cb_operations::{Diagonal, Function, Operation, Refusal, Region, Selection, SelectionRefusal};
+use cb_rank_faults::RanksFault;
 use cb_semirings::SemiringName;
 use cb_semirings::SemiringName::{MaxMin, MaxPlus, MinPlus, OrAnd, PlusTimes};
 use std::alloc::{AllocError, Global};
@@ -117,36 +117,29 @@ fn ask_for_tasks_on_graphs(rt: HostRuntime) {
     }
 }
 
-/// Command lines that ask for the entries of `a` in a region over a semiring, with the columns between its diagonal and the
-/// main one if it is right of that, and the rows if it is below it.
-const REGIONS: &[(&str, (RegionName, u32, u32, SemiringName))] = &lines! {
-    "select a --region lower" => (RegionName::Lower, 0, 0, PlusTimes);
-    "select a --region=upper --diagonal 2147483647 --semiring or-and" => (RegionName::Upper, 2_147_483_647, 0, OrAnd);
-    "select --region diagonal --diagonal -2147483647 a" => (RegionName::On, 0, 2_147_483_647, PlusTimes);
-    "select --diagonal=-1 a --region off-diagonal" => (RegionName::Off, 0, 1, PlusTimes);
+/// Command lines that ask for the entries of `a` in a region over a semiring.
+const REGIONS: &[(&str, (Region, SemiringName))] = &lines! {
+    "select a --region lower" => (Region::Lower(Diagonal { row: 0, column: 0 }), PlusTimes);
+    "select a --region=upper --diagonal 2147483647 --semiring or-and" => (Region::Upper(Diagonal { row: 0, column: 2_147_483_647 }), OrAnd);
+    "select --region diagonal --diagonal -2147483647 a" => (Region::On(Diagonal { row: 2_147_483_647, column: 0 }), PlusTimes);
+    "select --diagonal=-1 a --region off-diagonal" => (Region::Off(Diagonal { row: 1, column: 0 }), PlusTimes);
 };
 
 #[test]
 fn ask_for_regions(rt: HostRuntime) {
-    for (line, (region, right, down, semiring)) in REGIONS {
-        let (region, right, down) = (*region, *right, *down);
-        let selection = Selection::Select {
-            region,
-            right,
-            down,
-        };
-        let task = Task::Selection(Selected(selection), *semiring);
+    for (line, (region, semiring)) in REGIONS {
+        let task = Task::Selection(Selected(Selection::Select(*region)), *semiring);
         assert!(rt; asks_for(rt.alloc(), line, task, "a"), "{line}");
     }
 }
 
 /// Command lines that ask for a function of the values of `a` over a semiring.
-const FUNCTIONS: &[(&str, (FunctionName, SemiringName))] = &lines! {
-    "apply a --function constant --value 0" => (FunctionName::Constant(0), PlusTimes);
-    "apply --value=18446744073709551615 a --function plus" => (FunctionName::Plus(u64::MAX), PlusTimes);
-    "apply a --function=times --value 3 --semiring max-plus" => (FunctionName::Times(3), MaxPlus);
-    "apply a --function row" => (FunctionName::Row, PlusTimes);
-    "apply --function column a" => (FunctionName::Column, PlusTimes);
+const FUNCTIONS: &[(&str, (Function, SemiringName))] = &lines! {
+    "apply a --function constant --value 0" => (Function::Constant(0), PlusTimes);
+    "apply --value=18446744073709551615 a --function plus" => (Function::Sum(u64::MAX), PlusTimes);
+    "apply a --function=times --value 3 --semiring max-plus" => (Function::RightProduct(3), MaxPlus);
+    "apply a --function row" => (Function::Row, PlusTimes);
+    "apply --function column a" => (Function::Column, PlusTimes);
 };
 
 #[test]
@@ -163,9 +156,9 @@ const SELECTIONS: [(&str, (SelectionTask, SemiringName, &str)); 10] = lines! {
     "diagonal --as matrix x --semiring min-plus" => (Selected(Selection::DiagonalMatrix), MinPlus, "x");
     "power a --exponent 1" => (Selected(Selection::Power(NonZeroU32::MIN)), PlusTimes, "a");
     "power --exponent=4294967295 a --semiring or-and" => (Selected(Selection::Power(NonZeroU32::MAX)), OrAnd, "a");
-    "kron a b --semiring max-min" => (Kronecker, MaxMin, "a b");
-    "assign a b --row 1 --column 2147483647" => (Assign((0, 2_147_483_646)), PlusTimes, "a b");
-    "assign --column=3 a --semiring max-min --row 2147483647 b" => (Assign((2_147_483_646, 2)), MaxMin, "a b");
+    "kron a b --semiring max-min" => (Selected(Selection::Kronecker), MaxMin, "a b");
+    "assign a b --row 1 --column 2147483647" => (Selected(Selection::Assign((0, 2_147_483_646))), PlusTimes, "a b");
+    "assign --column=3 a --semiring max-min --row 2147483647 b" => (Selected(Selection::Assign((2_147_483_646, 2))), MaxMin, "a b");
     "extract a --rows k" => (Extract(Lists::Rows), PlusTimes, "a k");
     "extract --columns=l --semiring max-min a" => (Extract(Lists::Columns), MaxMin, "a l");
     "extract --columns l a --semiring or-and --rows k" => (Extract(Lists::Both), OrAnd, "a k l");
@@ -384,7 +377,8 @@ const FAULTS: &[(JobFault, u8, &str)] = faults! {
     JobFault::Ranks(RanksFault::NotStarted(35)) => 6, "rank 35 not started";
     JobFault::Ranks(RanksFault::Gone(0)) => 6, "rank 0 gone";
     JobFault::Ranks(RanksFault::TraceTorn) => 6, "trace torn";
-    JobFault::Ranks(RanksFault::Lost(7)) => 6, "lost at rank 7";
+    JobFault::Ranks(RanksFault::Lost { rank: 7, refusals: 2 }) => 6, "lost at rank 7";
+    JobFault::Unselected(SelectionRefusal::Shapes) => 5, "shapes don't agree";
     JobFault::Unselected(SelectionRefusal::NoValue) => 5, "no value of the semiring";
     JobFault::Unselected(SelectionRefusal::NotColumn) => 5, "matrix not a column";
     JobFault::Unselected(SelectionRefusal::NotSquare) => 5, "matrix not square";

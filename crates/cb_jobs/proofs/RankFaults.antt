@@ -8,7 +8,7 @@ use Rattle.cb_market_lines.specs.Reads.{Reads}
 use Rattle.cb_operations.specs.declared.operations.Operation.{Operation}
 use Rattle.cb_operations.specs.declared.refusals.Refusal.TheVariants as refusal_is
 use Rattle.cb_rank_engines.specs.declared.engines.Engine.{Engine}
-use Rattle.cb_rank_engines.specs.declared.engine_faults.EngineFault.TheVariants as engine_is
+use Rattle.cb_rank_faults.specs.declared.RanksFault.TheVariants as fault_is
 use Rattle.cb_layout.specs.Distributed.{Distributed}
 use Rattle.cb_rank_operations.specs.declared.operation_faults.OperationFault.{OperationFault}
 use Rattle.cb_rank_operations.specs.declared.operation_faults.OperationFault.TheVariants as operation_is
@@ -38,11 +38,11 @@ of_search s source engine side texts a (operation_is.Failed said) reads h loss =
 -- it isn't that of a sink
 not_output : (fault : OperationFault) → fault_of_operation fault ≡ Output → ⊥
 not_output (operation_is.Refused refusal) h = cc
-not_output (operation_is.Failed engine_is.Memory) h = cc
-not_output (operation_is.Failed (engine_is.NotStarted rank)) h = cc
-not_output (operation_is.Failed (engine_is.Gone rank)) h = cc
-not_output (operation_is.Failed engine_is.TraceTorn) h = cc
-not_output (operation_is.Failed (engine_is.Lost rank refusals)) h = cc
+not_output (operation_is.Failed fault_is.Memory) h = cc
+not_output (operation_is.Failed (fault_is.NotStarted rank)) h = cc
+not_output (operation_is.Failed (fault_is.Gone rank)) h = cc
+not_output (operation_is.Failed fault_is.TraceTorn) h = cc
+not_output (operation_is.Failed (fault_is.Lost rank refusals)) h = cc
 
 keeps_itself : (written : Option (List ℕ)) → Keeps written written
 keeps_itself None = tt

@@ -11,7 +11,7 @@ use Rattle.cb_operations.specs.declared.operations.Operation.{Operation}
 use Rattle.cb_operations.specs.OperationAnswers.{Agree, answer_of, shapes_in}
 use Rattle.cb_rank_engines.specs.declared.engines.Engine.{Engine}
 use Rattle.cb_rank_engines.specs.declared.engines.Outcome.{Outcome}
-use Rattle.cb_rank_engines.specs.declared.engine_faults.EngineFault.{EngineFault}
+use Rattle.cb_rank_faults.specs.declared.RanksFault.{RanksFault}
 use Rattle.cb_rank_operations.specs.declared.operation_faults.OperationFault.TheVariants.{Failed}
 use Rattle.cb_rank_operations.specs.Outcomes.{IsLossFor, IsRefusal, IsTraceFor}
 use Rattle.cb_rank_operations.specs.Searched.{IsWalkLoss, IsWalkRefusal}
@@ -22,12 +22,12 @@ use Rattle.cb_command_line.specs.declared.tasks.GraphTask.{GraphTask}
 use Rattle.cb_command_line.specs.declared.tasks.GraphTask.TheVariants.{Levels, Distances}
 use Rattle.cb_job_inputs.specs.Inputs.{AreMatrices}
 use Rattle.cb_job_operations.specs.OperationTexts.{IsAnswerOver, IsFaultOver}
-use Rattle.cb_job_selections.specs.SelectionAnswers.{IsSelectionAnswer, IsSelectionFault}
+use Rattle.cb_job_selections.specs.SelectionTexts.{IsSelectionAnswer, IsSelectionFault}
 use Rattle.cb_job_graphs.specs.GraphAnswers.{IsWalkFault}
 use Rattle.cb_job_graphs.specs.GraphTasks.{IsGraphAnswer, IsGraphFault}
 use Rattle.cb_job_ends.specs.Texts.{text_at}
 use Rattle.cb_job_ends.specs.declared.faults.JobFault.{JobFault}
-use Rattle.cb_jobs.specs.Engines.{engine_of, fault_of_engine}
+use Rattle.cb_jobs.specs.Engines.{engine_of, fault_of_operation}
 use Rattle.cb_jobs.specs.TraceTexts.{trace_lines}
 
 -- the text that is written: that of the matrix, and then, if there is a trace, a line for each of its events
@@ -53,8 +53,8 @@ IsOutcomeOver operation s engine side texts done = IsRanksAnswer operation s eng
 -- this side. If a block is lost, ranks lose it that are stepped in the engine's order or, if they run in threads, in some order.
 abbrev pub IsRunFailure : Operation → Arithmetic → Engine → ℕ → List (List ℕ) → JobFault → Type 0
 IsRunFailure operation s engine side texts fault =
-    (ms : List Sparse) × AreMatrices s texts ms × ((said : EngineFault) × IsRefusal engine operation side ms (Failed said)
-    × IsLossFor s engine operation side ms (Failed said) × (fault ≡ fault_of_engine said))
+    (ms : List Sparse) × AreMatrices s texts ms × ((said : RanksFault) × IsRefusal engine operation side ms (Failed said)
+    × IsLossFor s engine operation side ms (Failed said) × (fault ≡ fault_of_operation (Failed said)))
 
 -- why there is none, or why it wasn't written: as without ranks; or the operands are right, and the ranks failed
 abbrev pub IsRanksFaultOver : Operation → Arithmetic → Engine → ℕ → List (List ℕ) → JobFault → Type 0
@@ -63,8 +63,8 @@ IsRanksFaultOver operation s engine side texts fault = IsFaultOver operation s t
 -- The text reads as a graph that has the source, and an engine may fail so in a search from there: the same.
 abbrev pub IsWalkFailure : Arithmetic → ℕ → Engine → ℕ → List (List ℕ) → JobFault → Type 0
 IsWalkFailure s source engine side texts fault =
-    (a : Sparse) × Reads s (text_at texts 0) a × ((said : EngineFault) × IsWalkRefusal engine side a.shape source (Failed said)
-    × IsWalkLoss engine side a source (Failed said) × (fault ≡ fault_of_engine said))
+    (a : Sparse) × Reads s (text_at texts 0) a × ((said : RanksFault) × IsWalkRefusal engine side a.shape source (Failed said)
+    × IsWalkLoss engine side a source (Failed said) × (fault ≡ fault_of_operation (Failed said)))
 
 -- why there are no levels or distances: as without ranks; or the source is a vertex of the graph, and the ranks failed
 abbrev pub IsRanksWalkFault : Arithmetic → ℕ → Engine → ℕ → List (List ℕ) → JobFault → Type 0

@@ -4,13 +4,11 @@ use Rattle.cb_command_line.specs.declared.jobs.EngineName.{EngineName}
 use Rattle.cb_command_line.specs.declared.jobs.EngineName.TheVariants as name_is
 use Rattle.cb_rank_engines.specs.declared.engines.Engine.{Engine}
 use Rattle.cb_rank_engines.specs.declared.engines.Engine.TheVariants.{Threads, Traced}
-use Rattle.cb_rank_engines.specs.declared.engine_faults.EngineFault.{EngineFault}
-use Rattle.cb_rank_engines.specs.declared.engine_faults.EngineFault.TheVariants as engine_is
+use Rattle.cb_rank_faults.specs.declared.RanksFault.TheVariants as fault_is
 use Rattle.cb_rank_operations.specs.declared.operation_faults.OperationFault.{OperationFault}
 use Rattle.cb_rank_operations.specs.declared.operation_faults.OperationFault.TheVariants as operation_is
 use Rattle.cb_job_ends.specs.declared.faults.JobFault.{JobFault}
 use Rattle.cb_job_ends.specs.declared.faults.JobFault.TheVariants.{Refused, Ranks, Memory}
-use Rattle.cb_job_ends.specs.declared.faults.RanksFault.TheVariants.{NotStarted, Gone, TraceTorn, Lost}
 
 -- the engine of a name, or none where no ranks compute
 abbrev pub engine_of : EngineName → Option Engine
@@ -18,15 +16,9 @@ engine_of name_is.Plain = None
 engine_of (name_is.Ranks letters) = Some (Threads letters)
 engine_of (name_is.Traced letters) = Some (Traced letters)
 
--- the fault of a job for a fault of an engine
-abbrev pub fault_of_engine : EngineFault → JobFault
-fault_of_engine engine_is.Memory = Memory
-fault_of_engine (engine_is.NotStarted rank) = Ranks (NotStarted rank)
-fault_of_engine (engine_is.Gone rank) = Ranks (Gone rank)
-fault_of_engine engine_is.TraceTorn = Ranks TraceTorn
-fault_of_engine (engine_is.Lost rank refusals) = Ranks (Lost rank)
-
--- the fault of a job for a fault of an operation by an engine
+-- The fault of a job for a fault of an operation by an engine. Lack of memory is the job's own fault, and no job has it as a
+-- fault of ranks.
 abbrev pub fault_of_operation : OperationFault → JobFault
 fault_of_operation (operation_is.Refused refusal) = Refused refusal
-fault_of_operation (operation_is.Failed fault) = fault_of_engine fault
+fault_of_operation (operation_is.Failed fault_is.Memory) = Memory
+fault_of_operation (operation_is.Failed fault) = Ranks fault

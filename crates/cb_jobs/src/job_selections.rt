@@ -2,7 +2,7 @@
 ghost use Rattle.std.specs.Prelude.{◌≡◌, vec_len, false};
 ghost use Rattle.cb_semirings.specs.Names.{arithmetic_of};
 ghost use Rattle.cb_command_line.specs.Jobs.{selection_file_count_of};
-ghost use Rattle.cb_job_selections.specs.SelectionAnswers.{IsSelectionEnd};
+ghost use Rattle.cb_job_selections.specs.SelectionTexts.{IsSelectionEnd};
 
 use cb_command_line::SelectionTask;
 use cb_job_ends::faults::JobFault;

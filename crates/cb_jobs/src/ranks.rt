@@ -1,12 +1,13 @@
 //! The ranks that compute a job, and their faults.
 ghost use Rattle.std.specs.Prelude.{◌≡◌, ◌≢◌, IfSome, option_map};
 ghost use Rattle.cb_job_ends.specs.declared.faults.JobFault.TheVariants.{Output};
-ghost use Rattle.cb_jobs.specs.Engines.{engine_of, fault_of_engine, fault_of_operation};
+ghost use Rattle.cb_jobs.specs.Engines.{engine_of, fault_of_operation};
 
 use cb_command_line::{EngineName, Job};
-use cb_job_ends::faults::{JobFault, RanksFault};
+use cb_job_ends::faults::JobFault;
 use cb_layout::Grid;
-use cb_rank_engines::{Engine, EngineFault};
+use cb_rank_engines::Engine;
+use cb_rank_faults::RanksFault;
 use cb_rank_operations::OperationFault;
 
 /// The ranks that compute a job: an engine over the ranks of a grid; and how many threads read and write.
@@ -34,25 +35,13 @@ pub fn ranks_of(job: &Job) -> Option<Ranks<'static>>
     })
 }
 
-/// The fault of a job for a fault of an engine.
-fn engine_fault(fault: EngineFault) -> JobFault
-    ensures { result ≡ fault_of_engine fault }
-{
-    match fault {
-        EngineFault::Memory => JobFault::Memory,
-        EngineFault::NotStarted(rank) => JobFault::Ranks(RanksFault::NotStarted(rank)),
-        EngineFault::Gone(rank) => JobFault::Ranks(RanksFault::Gone(rank)),
-        EngineFault::TraceTorn => JobFault::Ranks(RanksFault::TraceTorn),
-        EngineFault::Lost { rank, .. } => JobFault::Ranks(RanksFault::Lost(rank)),
-    }
-}
-
-/// The fault of a job for a fault of an operation by an engine.
+/// The fault of a job for a fault of an operation by an engine. Lack of memory is the job's own fault, wherever it comes.
 pub fn job_fault(fault: OperationFault) -> JobFault
     ensures { result ≡ fault_of_operation fault }
 {
     match fault {
         OperationFault::Refused(refusal) => JobFault::Refused(refusal),
-        OperationFault::Failed(fault) => engine_fault(fault),
+        OperationFault::Failed(RanksFault::Memory) => JobFault::Memory,
+        OperationFault::Failed(fault) => JobFault::Ranks(fault),
     }
 }

@@ -10,7 +10,7 @@ use Rattle.cb_operations.specs.declared.operations.Operation.TheVariants.{Multip
 use Rattle.cb_operations.specs.OperationAnswers.{operand_count_of, Agree, answer_of, shapes_in}
 use Rattle.cb_kept.specs.declared.faults.Fault.TheVariants.{Test, Mixed, Shapes}
 use Rattle.cb_kept.specs.declared.kept.Kept.{Kept}
-use Rattle.cb_serial.specs.Lent.{lent_in}
+use Rattle.cb_operations.specs.Operands.{lent_in}
 use Rattle.cb_kept.specs.Kept.{Keeps, semiring_of, semiring_in, matrix_in, AreOver}
 use Rattle.cb_kept.specs.KeptAnswers.{kept_faults, HasMadeKept}
 use Rattle.cb_kept.specs.Answers.{NoFault}

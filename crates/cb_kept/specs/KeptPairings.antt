@@ -4,8 +4,8 @@ use Rattle.std.specs.Prelude.{◌≡◌, ℕ, ◌≤◌, ◌+◌, ◌*◌}
 use Rattle.cb_semirings.specs.Arithmetic.{Arithmetic}
 use Rattle.cb_matrix.specs.declared.TheConstants.{LIMIT}
 use Rattle.cb_matrix.specs.Sparse.{Sparse, Extent}
-use Rattle.cb_elementwise.specs.Complements.{excluded}
-use Rattle.cb_selections.specs.Selections.{assigned, kronecker}
+use Rattle.cb_operations.specs.Selected.{excluded}
+use Rattle.cb_operations.specs.Selected.{assigned, kronecker}
 use Rattle.cb_selections.specs.TurnedProducts.{turned_shape, turned_product}
 use Rattle.cb_kept.specs.declared.pairings.Pairing.{Pairing}
 use Rattle.cb_kept.specs.declared.pairings.Pairing.TheVariants.{Kronecker, Assign, Exclude, Multiply}

@@ -6,7 +6,7 @@ use Rattle.cb_semirings.specs.Arithmetic.{Arithmetic}
 use Rattle.cb_matrix.specs.Sparse.{Sparse}
 use Rattle.cb_matrix.specs.Values.{product}
 use Rattle.cb_matrix.specs.Operations.{masked}
-use Rattle.cb_elementwise.specs.Complements.{excluded}
+use Rattle.cb_operations.specs.Selected.{excluded}
 use Rattle.cb_dcsc.specs.Columns.{with_entries}
 use Rattle.cb_shares.specs.Shares.{panel, AreBefore, JoinsPanels}
 use Rattle.cb_kept.specs.declared.faults.Fault.{Fault}

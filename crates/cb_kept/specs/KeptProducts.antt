@@ -3,7 +3,7 @@ use Rattle.std.specs.Prelude.{Some, [], ◌∷◌}
 use Rattle.cb_semirings.specs.Arithmetic.{Arithmetic}
 use Rattle.cb_matrix.specs.Sparse.{Sparse}
 use Rattle.cb_matrix.specs.Values.{product}
-use Rattle.cb_elementwise.specs.Complements.{excluded}
+use Rattle.cb_operations.specs.Selected.{excluded}
 use Rattle.cb_operations.specs.declared.operations.Operation.TheVariants.{MultiplyMasked}
 use Rattle.cb_kept.specs.declared.faults.Fault.{Fault}
 use Rattle.cb_kept.specs.declared.kept.Kept.{Kept}

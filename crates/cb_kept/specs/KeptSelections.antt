@@ -7,12 +7,13 @@ use Rattle.cb_semirings.specs.Names.{arithmetic_of}
 use Rattle.cb_matrix.specs.declared.TheConstants.{LIMIT}
 use Rattle.cb_matrix.specs.Sparse.{Sparse, Extent}
 use Rattle.cb_matrix.specs.Operations.{cut}
-use Rattle.cb_selections.specs.declared.regions.Diagonal.{Diagonal as Line}
-use Rattle.cb_selections.specs.declared.regions.Region.TheVariants.{Lower, Upper, On, Off}
-use Rattle.cb_selections.specs.declared.functions.Function.TheVariants.{Constant, Sum, LeftProduct, RightProduct, Row, Column}
-use Rattle.cb_selections.specs.Functions.{TakesValues}
-use Rattle.cb_selections.specs.Selections.{selected, applied, diagonal_of, diagonal_matrix, extracted}
-use Rattle.cb_selections.specs.TurnedProducts.{power}
+use Rattle.cb_operations.specs.declared.regions.Diagonal.{Diagonal as Line}
+use Rattle.cb_operations.specs.declared.regions.Region.TheVariants.{Lower, Upper, On, Off}
+use Rattle.cb_operations.specs.declared.functions.Function.TheVariants.{Constant, Sum, LeftProduct, RightProduct, Row, Column}
+use Rattle.cb_operations.specs.Functions.{TakesValues}
+use Rattle.cb_operations.specs.Selected.{selected, applied, diagonal_of, diagonal_matrix}
+use Rattle.cb_selections.specs.Extracted.{extracted}
+use Rattle.cb_operations.specs.Selected.{power}
 use Rattle.cb_kept.specs.declared.selections.Selection.{Selection}
 use Rattle.cb_kept.specs.declared.selections.Selection.TheVariants.{Select, Apply, Diagonal, DiagonalMatrix, Part, Power}
 use Rattle.cb_kept.specs.declared.faults.Fault.{Fault}

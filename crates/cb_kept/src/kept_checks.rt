@@ -4,7 +4,7 @@ ghost use Rattle.std.specs.Prelude.{◌≡◌, ◌↔◌, IsTrue, length, map, A
 ghost use Rattle.cb_operations.specs.OperationAnswers.{operand_count_of, Agree, shapes_in};
 ghost use Rattle.std.specs.Borrow.{Bor};
 ghost use Rattle.cb_kept.specs.declared.kept.Kept.{Kept as KeptValue};
-ghost use Rattle.cb_serial.specs.Lent.{lent_in};
+ghost use Rattle.cb_operations.specs.Operands.{lent_in};
 ghost use Rattle.cb_kept.specs.Kept.{AreOver, Keeps, semiring_of, semiring_in, matrix_in};
 ghost use Rattle.cb_kept.specs.KeptAnswers.{kept_faults};
 ghost use Rattle.cb_kept.specs.KeptGraphs.{kept_graph_faults};

@@ -2,7 +2,7 @@
 ghost use Rattle.std.specs.Prelude.{◌≡◌, length, map, Some, IfSome, IfOk};
 ghost use Rattle.cb_operations.specs.OperationAnswers.{operand_count_of, Agree, answer_of, shapes_in};
 ghost use Rattle.cb_semirings.specs.Names.{arithmetic_of};
-ghost use Rattle.cb_serial.specs.Lent.{lent_in};
+ghost use Rattle.cb_operations.specs.Operands.{lent_in};
 ghost use Rattle.cb_kept.specs.Kept.{Keeps, AreOver, semiring_of, matrix_in};
 ghost use Rattle.cb_kept.specs.Answers.{IsAnswer};
 ghost use Rattle.cb_kept.specs.KeptAnswers.{kept_faults, prune_of, HasMadeKept};

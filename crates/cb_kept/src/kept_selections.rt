@@ -2,7 +2,7 @@
 ghost use Rattle.std.specs.Prelude.{◌≡◌, ◌↔◌, ◌<◌, ◌≤◌, length, All, IsTrue, IfOk, IfErr};
 ghost use Rattle.cb_semirings.specs.Names.{arithmetic_of};
 ghost use Rattle.cb_reshape.specs.Sums.{matrix_total};
-ghost use Rattle.cb_selections.specs.Selections.{extracted};
+ghost use Rattle.cb_selections.specs.Extracted.{extracted};
 ghost use Rattle.cb_kept.specs.declared.selections.Selection.TheVariants as selection_is;
 ghost use Rattle.cb_kept.specs.Answers.{IsAnswer, NoFault};
 ghost use Rattle.cb_kept.specs.Kept.{Keeps, semiring_of, matrix_in};
@@ -14,8 +14,9 @@ use crate::kept::{Kept, of_block};
 use crate::selections::Selection;
 use cb_dcsc::Block;
 use cb_matrix::{LIMIT, Shape};
+use cb_operations::{Function, Region};
 use cb_reshape::{cut, total};
-use cb_selections::{Function, Region, apply, diagonal, diagonal_matrix, extract, power, select};
+use cb_selections::{apply, diagonal, diagonal_matrix, extract, power, select};
 use cb_semirings::Semiring;
 use std::alloc::Global;
 

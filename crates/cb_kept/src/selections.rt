@@ -2,7 +2,7 @@
 ghost use Rattle.std.specs.Prelude.{◌≡◌};
 ghost use Rattle.cb_kept.specs.KeptSelections.{region_of, function_of};
 
-use cb_selections::{Diagonal, Function, Region};
+use cb_operations::{Diagonal, Function, Region};
 
 /// An operation on one kept matrix.
 #[derive(Clone, Copy)]

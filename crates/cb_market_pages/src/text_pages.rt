@@ -1,8 +1,8 @@
 //! The text of a matrix over a grid, in panels or in a block, page by page, without gathering the matrix.
-ghost use Rattle.std.specs.Prelude.{◌≡◌, ◌+◌, ◌≤◌, ◌<◌, [], ◌++◌, length, take, drop, true, false, IfSome, IfNone};
+ghost use Rattle.std.specs.Prelude.{◌≡◌, ◌+◌, ◌≤◌, ◌<◌, [], ◌++◌, length, flat_map, take, drop, true, false, IfSome, IfNone};
 ghost use Rattle.cb_layout.specs.Segments.{entries_of};
 ghost use Rattle.cb_market_pages.specs.Sheets.{lines_of};
-ghost use Rattle.cb_market_pages.specs.Text.{text_of, column_lines, first_lines, line_with};
+ghost use Rattle.cb_market_pages.specs.Text.{text_of, column_lines, entry_line, first_lines, line_with};
 
 use crate::pages::{LINE, Page, SIZE};
 use crate::writing::put_head;
@@ -59,6 +59,18 @@ impl<'a, S: Semiring> TextPages<'a, S> {
             len: matrix.len(),
             has_head: true,
             entries: EntriesLeft::new(Segments::of_block(matrix)),
+        }
+    }
+
+    /// Starts the lines of a block's entries: its text without the header and the size line.
+    pub fn lines_of(block: &'a Block<S>) -> TextPages<'a, S>
+        ensures { result ≡ flat_map (entry_line S.arithmetic.writes_pattern) block.now.entries }
+    {
+        TextPages {
+            shape: block.shape(),
+            len: block.len(),
+            has_head: false,
+            entries: EntriesLeft::new(Segments::of_block(block)),
         }
     }
 

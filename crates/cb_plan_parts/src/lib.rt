@@ -2,10 +2,14 @@
 //!
 //! Rank (i, j) keeps part (i, j) of each operand in the operand's slot. A plan starts from these parts
 //! ([`operand_starts`]), lets each rank work on its own slots ([`work_everywhere`], [`zero_everywhere`]), moves blocks
-//! along the rows and columns of ranks by the collectives of `cb_plan_parts`, and ends by shutting all lanes
+//! along the rows and columns of ranks by collectives, and ends by shutting all lanes
 //! ([`finish`]). Then it is a plan that can be run.
 //!
-//! `specs/PlanParts` defines these acts and starts, `specs/Flows` says when acts pass the check. `proofs/Lib` lists the
+//! A collective is the acts of all members of a list of ranks. Each call takes room for all of them before it appends the first,
+//! so a refused call leaves the plan as it was; its cost is proportional to the acts that it appends.
+//!
+//! `specs/Collectives` lists the acts of each collective, and defines what they do to the slots of the ranks, over blocks of any
+//! kind. `specs/PlanParts` defines the starts and the work, `specs/Flows` says when acts pass the check. `proofs/Lib` lists the
 //! lemmas that such plans share.
 #![tactic(auto)]
 

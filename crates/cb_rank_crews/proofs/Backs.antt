@@ -3,7 +3,7 @@ use Rattle.std.proofs.Common.{◌≡◌, ℕ, List, [], ◌∷◌, ◌++◌, map
 use Rattle.std.specs.List.{AllZip}
 use Rattle.cb_semirings.specs.Arithmetic.{Arithmetic}
 use Rattle.cb_rank_runs.specs.Crews.{Member, Ran}
-use Rattle.cb_rank_threads.specs.Faults.{IsFirstGone}
+use Rattle.cb_rank_runs.specs.NamedRanks.{IsFirstGone}
 use Rattle.cb_rank_crews.specs.Backs.{IsNext}
 
 image_more : {A B : Type 0} (g : B → A) (ys : List B) (y : B) (rest : List A) → map g (ys ++ y ∷ []) ++ rest ≡ map g ys ++ g y ∷ rest

@@ -22,7 +22,7 @@ use Rattle.cb_rank_crews.specs.contracts.lines.Sender as Sender
 use Rattle.cb_rank_crews.specs.contracts.lines.Receiver as Receiver
 use Rattle.cb_rank_crews.specs.contracts.messages.Errand as Errand
 use Rattle.cb_rank_crews.specs.contracts.messages.Slip as Slip
-use Rattle.cb_rank_crews.specs.contracts.messages.Job as Job
+use Rattle.cb_rank_crews.specs.contracts.messages.Request as Request
 use Rattle.cb_rank_crews.specs.contracts.messages.Answer as Answer
 
 -- what holds others may, if they may
@@ -71,8 +71,8 @@ module _ (S K : RattleType) (A : SemiringGhosts S.Denot) (N : NamingGhosts K.Den
       let inside : IsSend (Answer.TheInside.the_row S K A N) = declared_send (Answer.TheInside.the_type S K A N) (slip_send, (result_send _ member Gone.the_row gone_send, tt)) in
       search (sendable, inside)
 
-  pub jobs_send : IsSend (Receiver.the_row (Job.the_row S K A N))
-  jobs_send = receiver_send (Job.the_row S K A N) (declared_send (Job.the_type S K A N) (slip_send, tt))
+  pub requests_send : IsSend (Receiver.the_row (Request.the_row S K A N))
+  requests_send = receiver_send (Request.the_row S K A N) (declared_send (Request.the_type S K A N) (slip_send, tt))
 
   pub answers_send : IsSend (Sender.the_row (Answer.the_row S K A N))
   answers_send = sender_send (Answer.the_row S K A N) answer_send

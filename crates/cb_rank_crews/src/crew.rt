@@ -2,8 +2,8 @@
 ghost use Rattle.std.specs.Prelude.{◌≡◌, ◌≤◌, length, map, IfOk, IfErr, IfNone, IfSome, vec_len};
 ghost use Rattle.std.specs.List.{AllZip};
 ghost use Rattle.cb_rank_runs.specs.Crews.{AreNew, Ran};
+ghost use Rattle.cb_rank_runs.specs.NamedRanks.{IsFirstGone};
 ghost use Rattle.cb_rank_runs.specs.Rooms.{HasRoomFor};
-ghost use Rattle.cb_rank_threads.specs.Faults.{IsFirstGone};
 ghost use Rattle.cb_rank_crews.specs.Backs.{IsNext, was_given};
 ghost use Rattle.cb_rank_crews.specs.Crews.{given, size};
 ghost use Rattle.cb_rank_crews.specs.CrewRooms.{IsRoomFor};
@@ -13,8 +13,8 @@ use crate::rooms::Room;
 use crate::workers::{Back, Busy, Idle};
 use cb_letters::Capacity;
 use cb_plan::{CheckedPlan, RankStore};
+use cb_rank_faults::RanksFault;
 use cb_rank_runs::{Finished, Member, Remains, assemble};
-use cb_rank_threads::RunFault;
 use cb_semirings::Semiring;
 use std::alloc::Global;
 use std::mem;
@@ -29,11 +29,11 @@ pub struct Crew<S: Semiring, J: Naming> {
 
 impl<S: Semiring, J: Naming> Crew<S, J> {
     ghost use Rattle.std.specs.Prelude.{◌≢◌, OnOk};
+    ghost use Rattle.cb_rank_faults.specs.declared.RanksFault.TheVariants.{Memory};
     ghost use Rattle.cb_plan.specs.Stores.{Fits};
     ghost use Rattle.cb_rank_runs.specs.Finished.{FinishesPlan, LanesHold};
+    ghost use Rattle.cb_rank_runs.specs.NamedRanks.{IsFaultOf, NamesLeast};
     ghost use Rattle.cb_rank_runs.specs.Views.{finished_view};
-    ghost use Rattle.cb_rank_threads.specs.Faults.{IsFaultOf, NamesLeast};
-    ghost use Rattle.cb_rank_threads.specs.declared.faults.RunFault.TheVariants.{Memory};
 
     /// How many workers there are.
     pub fn workers(&self) -> usize
@@ -57,7 +57,7 @@ impl<S: Semiring, J: Naming> Crew<S, J> {
         plan: &CheckedPlan,
         stores: Vec<RankStore<S>>,
         capacity: Capacity,
-    ) -> Result<Finished<S>, RunFault>
+    ) -> Result<Finished<S>, RanksFault>
         requires fits { Fits plan.now.ranks plan.now.starts stores.items }
         requires workers { size self.old ≡ plan.now.ranks }
         ensures meaning { IfOk result (λ finished. FinishesPlan S.arithmetic plan.now stores.items (finished_view finished)) }
@@ -78,7 +78,7 @@ impl<S: Semiring, J: Naming> Crew<S, J> {
                 self.idle = idle;
                 Ok(remains.finish(done))
             }
-            Err(number) => Err(RunFault::Gone(number)),
+            Err(number) => Err(RanksFault::Gone(number)),
         }
     }
 }

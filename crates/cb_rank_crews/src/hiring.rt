@@ -1,7 +1,7 @@
 //! The rings of a crew, and how its threads are started.
 ghost use Rattle.std.specs.Prelude.{ℕ, ◌≡◌, ◌<◌, ◌^◌, List, [], length, slice_get, Some, IfOk, IfErr};
 ghost use Rattle.rtrb.specs.Ring.{sent, received, IsPair};
-ghost use Rattle.cb_rank_threads.specs.Faults.{IsFaultOf};
+ghost use Rattle.cb_rank_runs.specs.NamedRanks.{IsFaultOf};
 ghost use Rattle.cb_rank_crews.specs.Crews.{size};
 ghost use Rattle.cb_rank_crews.specs.Rings.{RingName, put_ring, names_of, AreNewRings};
 
@@ -9,8 +9,8 @@ use crate::crew::Crew;
 use crate::lines::line;
 use crate::messages::{Errand, Naming, Slip};
 use crate::workers::{Idle, Worker, serve};
-use cb_rank_runs::Gate;
-use cb_rank_threads::RunFault;
+use cb_rank_faults::RanksFault;
+use cb_rank_runs::Observer;
 use cb_semirings::Semiring;
 use rtrb::{Consumer, Producer, RingBuffer};
 use std::alloc::{AllocError, Global};
@@ -45,7 +45,7 @@ impl<S: Semiring> Rings<S> {
     }
 }
 
-/// Starts a thread for each ring, in order, and returns the crew. Before each half of a rank its worker calls the gate,
+/// Starts a thread for each ring, in order, and returns the crew. Before each half of a rank its worker calls the observer,
 /// as [`run_rank`](cb_rank_runs::run_rank) does.
 ///
 /// It takes memory for two lines for each worker and for a list of them. On a fault the threads that were started end:
@@ -56,14 +56,14 @@ pub fn hire<
     S: Semiring + Send + Sync + 's,
     J: Naming + Send + Sync + 's,
     R: Threads + Wait + Sync,
-    G: Gate<S>,
+    O: Observer<S>,
 >(
     scope: &Scope<'s, E>,
     rt: &'s R,
     alloc: Global,
     rings: Rings<S>,
-    gate: &'s G,
-) -> Result<Crew<S, J>, RunFault>
+    observer: &'s O,
+) -> Result<Crew<S, J>, RanksFault>
     requires names { (k : ℕ) → J.ring k ≡ slice_get rings k }
     ensures size { IfOk result (λ crew. size crew ≡ length rings) }
     ensures fault { IfErr result (IsFaultOf (length rings)) }
@@ -72,7 +72,7 @@ pub fn hire<
     let mut idle = Vec::with_capacity(alloc, ends.len())?;
     for (errands, slip) in ends {
         let number = idle.len() as u16;
-        idle.push_reserved(hire_one(scope, rt, alloc, number, errands, slip, gate)?);
+        idle.push_reserved(hire_one(scope, rt, alloc, number, errands, slip, observer)?);
     }
     Ok(Crew { idle })
 }
@@ -84,7 +84,7 @@ fn hire_one<
     S: Semiring + Send + Sync + 's,
     J: Naming + Send + Sync + 's,
     R: Threads + Wait + Sync,
-    G: Gate<S>,
+    O: Observer<S>,
 >(
     scope: &Scope<'s, E>,
     rt: &'s R,
@@ -92,21 +92,21 @@ fn hire_one<
     number: u16,
     errands: Producer<Errand<S>>,
     slip: Consumer<Errand<S>>,
-    gate: &'s G,
-) -> Result<Idle<S, J>, RunFault>
+    observer: &'s O,
+) -> Result<Idle<S, J>, RanksFault>
     requires name { J.ring number ≡ Some (put_ring errands) }
     requires new { IsPair errands slip × (sent errands ≡ []) × (received slip ≡ []) }
     ensures fault { IfErr result (λ fault. (n : ℕ) → number < n → IsFaultOf n fault) }
 {
-    let (jobs, their_jobs) = line(alloc)?;
+    let (requests, their_requests) = line(alloc)?;
     let (their_answers, answers) = line(alloc)?;
-    let Ok(_thread) = scope.spawn(move || serve(rt, their_jobs, their_answers, gate)) else {
-        return Err(RunFault::NotStarted(number));
+    let Ok(_thread) = scope.spawn(move || serve(rt, their_requests, their_answers, observer)) else {
+        return Err(RanksFault::NotStarted(number));
     };
     let worker = Worker {
         number,
         errands,
-        jobs,
+        requests,
         answers,
     };
     let slip = Slip {

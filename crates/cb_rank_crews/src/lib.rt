@@ -5,12 +5,12 @@
 //!
 //! What is known of a message is what its type says, and no type says which rank was given. So each worker has a ring
 //! for the ranks that it gets ([`Rings`]). The end that puts them in stays with the crew. The other end, the slip, goes
-//! to and fro: with the job to the worker, who takes the rank out of the ring, and back with the answer. Once both ends
+//! to and fro: with the request to the worker, who takes the rank out of the ring, and back with the answer. Once both ends
 //! are together again, what was taken is what was put in, so the answer is what is left of the rank that was put in
 //! last. That the slip which comes back is of the same ring is said by a ghost member, [`Naming`], which is picked as
 //! the crew is hired.
 //!
-//! Jobs and answers go over lines, rings of one place with a bell, at which a worker without a job sleeps. No contract
+//! Requests and answers go over lines, rings of one place with a bell, at which a worker without a request sleeps. No contract
 //! claims that a run terminates.
 #![tactic(auto)]
 

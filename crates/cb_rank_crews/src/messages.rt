@@ -55,7 +55,7 @@ pub(crate) struct Slip<S: Semiring, J: Naming> {
 
 /// A slip with one errand to take out.
 #[derive(Drop)]
-pub(crate) struct Job<S: Semiring, J: Naming> {
+pub(crate) struct Request<S: Semiring, J: Naming> {
     pub(crate) slip: Slip<S, J>,
     ghost one: { length (known_items slip.ring) ≡ 1 },
 }

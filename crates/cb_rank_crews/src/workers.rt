@@ -8,11 +8,11 @@ ghost use Rattle.cb_rank_crews.specs.Backs.{BackView, was_given};
 ghost use Rattle.cb_rank_crews.specs.Rings.{put_ring, last_item};
 
 use crate::lines::{Receiver, Sender};
-use crate::messages::{Answer, Errand, Job, Naming, Slip};
+use crate::messages::{Answer, Errand, Naming, Request, Slip};
 use cb_lanes::Desk;
 use cb_plan::SharedBlock;
 use cb_rank::Rank;
-use cb_rank_runs::{Gate, Member, run_rank};
+use cb_rank_runs::{Member, Observer, run_rank};
 use cb_semirings::Semiring;
 use rtrb::Producer;
 use std::marker::Model;
@@ -25,7 +25,7 @@ use std::thread::Threads;
 pub(crate) struct Worker<S: Semiring, J: Naming> {
     pub(crate) number: u16,
     pub(crate) errands: Producer<Errand<S>>,
-    pub(crate) jobs: Sender<Job<S, J>>,
+    pub(crate) requests: Sender<Request<S, J>>,
     pub(crate) answers: Receiver<Answer<S, J>>,
     ghost name: { J.ring number ≡ Some (put_ring errands) },
 }
@@ -67,7 +67,7 @@ impl<S: Semiring, J: Naming> Idle<S, J> {
             return Err(number);
         };
         slip.ring.slots_beside(&mut worker.errands);
-        let Ok(()) = worker.jobs.send(Job { slip }) else {
+        let Ok(()) = worker.requests.send(Request { slip }) else {
             return Err(number);
         };
         Ok(Busy {
@@ -148,21 +148,21 @@ impl<S: Semiring, J: Naming> Worker<S, J> {
     }
 }
 
-/// What a worker's thread does: one job after the other, until the crew is gone.
-pub(crate) fn serve<S: Semiring + Send + Sync, J: Naming, R: Threads + Wait + Sync, G: Gate<S>>(
+/// What a worker's thread does: one request after the other, until the crew is gone.
+pub(crate) fn serve<S: Semiring + Send + Sync, J: Naming, R: Threads + Wait + Sync, O: Observer<S>>(
     rt: &R,
-    jobs: Receiver<Job<S, J>>,
+    requests: Receiver<Request<S, J>>,
     answers: Sender<Answer<S, J>>,
-    gate: &G,
+    observer: &O,
 ) {
-    let mut jobs = jobs;
+    let mut requests = requests;
     let mut answers = answers;
     for _ in rt.forever() {
-        let Some(Job { mut slip }) = jobs.receive(rt) else {
+        let Some(Request { mut slip }) = requests.receive(rt) else {
             return;
         };
         let Errand { rank, desk } = slip.ring.pop_known();
-        let left = run_rank(rt, rank, desk, gate);
+        let left = run_rank(rt, rank, desk, observer);
         let Ok(()) = answers.send(Answer { slip, left }) else {
             return;
         };

@@ -8,8 +8,8 @@ use Rattle.cb_plan.specs.Plans.{CheckedView}
 use Rattle.cb_plan_slots.specs.Slots.{HasOperands}
 use Rattle.cb_rank_world.specs.declared.events.Event.{Event}
 use Rattle.cb_rank_engines.specs.declared.engines.Engine.{Engine}
-use Rattle.cb_rank_engines.specs.declared.engine_faults.EngineFault.{EngineFault}
-use Rattle.cb_rank_engines.specs.declared.engine_faults.EngineFault.TheVariants.{Memory, NotStarted, Gone, TraceTorn, Lost}
+use Rattle.cb_rank_faults.specs.declared.RanksFault.{RanksFault}
+use Rattle.cb_rank_faults.specs.declared.RanksFault.TheVariants.{Memory, NotStarted, Gone, TraceTorn, Lost}
 use Rattle.cb_rank_engines.specs.EngineRuns.{IsLossFault, IsLostBlock, checked_of}
 use Rattle.cb_rank_engines.specs.Orders.{IsLeftInOrder, IsOrdered, IsOrderedLoss, IsSteppedLoss}
 use Rattle.cb_rank_engines.proofs.SteppedRuns.{of_its_order}
@@ -27,7 +27,7 @@ module _ (s : Arithmetic) (q : ℕ) (planned : Planned) (operands : List (ℕ ×
   }
 
   -- a loss in a run of the checked plan is one in a run of the plan
-  pub ordered_loss : (engine : Engine) → IsOrdered s engine p first stores refusals → (e : EngineFault) → IsLossFault n stores refusals e → IsOrderedLoss s engine q planned operands e
+  pub ordered_loss : (engine : Engine) → IsOrdered s engine p first stores refusals → (e : RanksFault) → IsLossFault n stores refusals e → IsOrderedLoss s engine q planned operands e
   ordered_loss engine left Memory h = tt
   ordered_loss engine left (NotStarted r) h = absurd h
   ordered_loss engine left (Gone r) h = absurd h

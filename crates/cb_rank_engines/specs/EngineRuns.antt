@@ -14,8 +14,8 @@ use Rattle.cb_rank_threads.specs.Traced.{HasProgram}
 use Rattle.cb_trace.specs.Traces.{TraceView, AreLegalEvents, AreOnLanes}
 use Rattle.cb_rank_engines.specs.declared.engines.Engine.{Engine}
 use Rattle.cb_rank_engines.specs.declared.engines.Engine.TheVariants.{Threads, Traced, InOrder}
-use Rattle.cb_rank_engines.specs.declared.engine_faults.EngineFault.{EngineFault}
-use Rattle.cb_rank_engines.specs.declared.engine_faults.EngineFault.TheVariants.{Memory, NotStarted, Gone, TraceTorn, Lost}
+use Rattle.cb_rank_faults.specs.declared.RanksFault.{RanksFault}
+use Rattle.cb_rank_faults.specs.declared.RanksFault.TheVariants.{Memory, NotStarted, Gone, TraceTorn, Lost}
 
 -- a plan, as a checked one
 abbrev pub checked_of : Planned → CheckedView
@@ -52,7 +52,7 @@ KeepsTrace (InOrder capacity order) = ⊥
 
 -- Why a run of so many ranks fails: memory was refused; one of them wasn't started, or was left alone; the trace is torn;
 -- or a block of the answer is lost at one of them, which was refused memory `count` times.
-abbrev pub IsEngineFault : Engine → ℕ → EngineFault → Type 0
+abbrev pub IsEngineFault : Engine → ℕ → RanksFault → Type 0
 IsEngineFault engine ranks Memory = Unit {0}
 IsEngineFault engine ranks (NotStarted r) = HasThreads engine × (r < ranks)
 IsEngineFault engine ranks (Gone r) = HasThreads engine × (r < ranks)
@@ -60,7 +60,7 @@ IsEngineFault engine ranks TraceTorn = KeepsTrace engine
 IsEngineFault engine ranks (Lost r count) = (r < ranks) × (0 < count)
 
 -- the fault isn't a lost block
-abbrev pub IsNoLoss : EngineFault → Type 0
+abbrev pub IsNoLoss : RanksFault → Type 0
 IsNoLoss (Lost r count) = ⊥
 IsNoLoss _ = Unit {0}
 
@@ -73,7 +73,7 @@ pub record IsLostBlock (n : ℕ) (stores : List (List (Slot Sparse))) (refusals 
   pub own : count ≡ get_or refusals r 0
 
 -- why the blocks that ranks left in slot n can't be gathered: memory was refused, or some of them are lost
-abbrev pub IsLossFault : ℕ → List (List (Slot Sparse)) → List ℕ → EngineFault → Type 0
+abbrev pub IsLossFault : ℕ → List (List (Slot Sparse)) → List ℕ → RanksFault → Type 0
 IsLossFault n stores refusals Memory = Unit {0}
 IsLossFault n stores refusals (Lost r count) = IsLostBlock n stores refusals r count
 IsLossFault n stores refusals _ = ⊥

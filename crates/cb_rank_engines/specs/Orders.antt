@@ -13,8 +13,8 @@ use Rattle.cb_rank_world.specs.declared.events.Event.{Event}
 use Rattle.cb_rank_world.specs.Worlds.{WorldView, IsNewWorld, AllDone}
 use Rattle.cb_rank_world.specs.WorldSteps.{RunsBy, FinishesBy}
 use Rattle.cb_rank_engines.specs.EngineRuns.{IsLostBlock, checked_of}
-use Rattle.cb_rank_engines.specs.declared.engine_faults.EngineFault.{EngineFault}
-use Rattle.cb_rank_engines.specs.declared.engine_faults.EngineFault.TheVariants.{Lost}
+use Rattle.cb_rank_faults.specs.declared.RanksFault.{RanksFault}
+use Rattle.cb_rank_faults.specs.declared.RanksFault.TheVariants.{Lost}
 use Rattle.cb_rank_engines.specs.declared.engines.Engine.{Engine}
 use Rattle.cb_rank_engines.specs.declared.engines.Engine.TheVariants.{Threads, Traced, InOrder}
 use Rattle.cb_rank_engines.specs.declared.engines.Outcome.{Outcome}
@@ -84,6 +84,6 @@ pub record IsSteppedLoss (s : Arithmetic) (q : ℕ) (planned : Planned) (operand
   pub lost : IsLostBlock planned.result stores refusals r count
 
 -- if a block is lost, ranks lose it that are stepped in the engine's order, or, if its ranks run in threads, in some order
-abbrev pub IsOrderedLoss : Arithmetic → Engine → ℕ → Planned → List (ℕ × Sparse) → EngineFault → Type 0
+abbrev pub IsOrderedLoss : Arithmetic → Engine → ℕ → Planned → List (ℕ × Sparse) → RanksFault → Type 0
 IsOrderedLoss s engine q planned operands (Lost r count) = OfItsOrder engine (λ letters order. IsSteppedLoss s q planned operands letters order r count)
 IsOrderedLoss s engine q planned operands _ = Unit {0}

@@ -9,18 +9,18 @@ ghost use Rattle.cb_plan_slots.specs.Answers.{HasShapes, IsGathered, IsGatheredO
 ghost use Rattle.cb_plan_slots.specs.Losses.{LostOrMeans};
 ghost use Rattle.cb_plan_slots.specs.Slots.{whole_operands};
 ghost use Rattle.cb_rank_crews.specs.Crews.{workers_of};
-ghost use Rattle.cb_rank_engines.specs.declared.engine_faults.EngineFault.TheVariants.{Memory};
+ghost use Rattle.cb_rank_faults.specs.declared.RanksFault.TheVariants.{Memory};
 ghost use Rattle.cb_rank_engines.specs.Orders.{IsLeftInOrder, IsOrdered, IsOrderedLoss, IsOrderedOutcome};
 ghost use Rattle.cb_rank_engines.specs.EngineRuns.{IsEngineFault, IsLossFault, IsMade, IsNoLoss, IsTraceOf, LostWhereRefused, checked_of};
 
-use crate::EngineFault;
 use cb_layout::{DistributedMatrix, Grid};
 use cb_letters::Capacity;
 use cb_matrix::Shape;
 use cb_plan::{CheckedPlan, Planned, RankStore, SLOTS};
 use cb_plan_slots::{DrainFault, gather_slot, laid_out};
 use cb_rank_crews::{Crew, Naming};
-use cb_rank_runs::OpenGate;
+use cb_rank_faults::RanksFault;
+use cb_rank_runs::NoObserver;
 use cb_rank_threads::{run_threads, run_traced};
 use cb_rank_world::{Event, World};
 use cb_semirings::Semiring;
@@ -77,7 +77,7 @@ impl<'o> Engine<'o> {
         alloc: Global,
         plan: &CheckedPlan,
         stores: Vec<RankStore<S>>,
-    ) -> Result<Left<S>, EngineFault>
+    ) -> Result<Left<S>, RanksFault>
         requires fits { Fits plan.now.ranks plan.now.starts stores.items }
         ensures left { IfOk result (λ left. HoldsMeaning S.arithmetic plan.now stores.items left.stores.items left.refusals.items) }
         ensures order { IfOk result (λ left. IsOrdered S.arithmetic self.entry plan.now stores.items left.stores.items left.refusals.items) }
@@ -88,7 +88,7 @@ impl<'o> Engine<'o> {
         match self {
             Engine::Threads(letters) => {
                 let capacity = Capacity::nearest(letters);
-                let finished = run_threads(rt, alloc, plan, stores, capacity, &OpenGate)?;
+                let finished = run_threads(rt, alloc, plan, stores, capacity, &NoObserver)?;
                 let (stores, refusals) = finished.into_parts();
                 Ok(Left {
                     stores,
@@ -98,7 +98,7 @@ impl<'o> Engine<'o> {
             }
             Engine::Traced(letters) => {
                 let capacity = Capacity::nearest(letters);
-                let (finished, trace) = run_traced(rt, alloc, plan, stores, capacity, &OpenGate)?;
+                let (finished, trace) = run_traced(rt, alloc, plan, stores, capacity, &NoObserver)?;
                 prove_eq!(trace.len(), trace.events().len());
                 let (stores, refusals) = finished.into_parts();
                 Ok(Left {
@@ -128,7 +128,7 @@ impl<'o> Engine<'o> {
         crew: &mut Option<Crew<S, J>>,
         plan: &CheckedPlan,
         stores: Vec<RankStore<S>>,
-    ) -> Result<Left<S>, EngineFault>
+    ) -> Result<Left<S>, RanksFault>
         requires fits { Fits plan.now.ranks plan.now.starts stores.items }
         ensures left { IfOk result (λ left. HoldsMeaning S.arithmetic plan.now stores.items left.stores.items left.refusals.items) }
         ensures order { IfOk result (λ left. IsOrdered S.arithmetic self.entry plan.now stores.items left.stores.items left.refusals.items) }
@@ -194,7 +194,7 @@ pub fn compute<S: Semiring + Send + Sync, R: Threads + Wait + Sync>(
     planned: Planned,
     operands: Vec<(u16, DistributedMatrix<S>)>,
     shape: Shape,
-) -> Result<Outcome<S>, EngineFault>
+) -> Result<Outcome<S>, RanksFault>
     requires sides { All (λ o. o.1.side ≡ grid.now.side) operands.items }
     requires makes { (answer : Sparse) × Makes S.arithmetic grid.now.side (whole_operands operands.items) planned shape answer }
     ensures ok { IfOk result (λ done. IsMade S.arithmetic grid.now.side (whole_operands operands.items) planned shape done.answer) }
@@ -217,7 +217,7 @@ fn outcome_of<S: Semiring>(
     left: Left<S>,
     slot: u16,
     shape: Shape,
-) -> Result<Outcome<S>, EngineFault>
+) -> Result<Outcome<S>, RanksFault>
     requires slot { slot < SLOTS }
     requires table { IsTable (grid.now.side * grid.now.side) SLOTS left.stores.items }
     requires lost { LostWhereRefused left.stores.items left.refusals.items }
@@ -238,7 +238,7 @@ fn outcome_of<S: Semiring>(
             refusals,
             trace,
         }),
-        Err(DrainFault::Memory) => Err(EngineFault::Memory),
-        Err(DrainFault::Lost(rank)) => Err(EngineFault::lost(rank, &refusals)),
+        Err(DrainFault::Memory) => Err(RanksFault::Memory),
+        Err(DrainFault::Lost(rank)) => Err(RanksFault::lost(rank, &refusals)),
     }
 }

@@ -3,7 +3,8 @@ use cb_dcsc::Block;
 use cb_layout::Grid;
 use cb_matrix::Matrix;
 use cb_operations::{Operands, Operation};
-use cb_rank_engines::{Engine, EngineFault};
+use cb_rank_engines::Engine;
+use cb_rank_faults::RanksFault;
 use cb_rank_operations::{OperationFault, run_matrices};
 use cb_rank_world::Event;
 use cb_samples::{are_values, entry, shape};
@@ -189,16 +190,16 @@ pub fn made_alone(
     match computed(alloc, given, operation) {
         Ok(block) => Ok(whole(&block)?),
         Err(SerialFault::Refused(refusal)) => Err(OperationFault::Refused(refusal)),
-        Err(SerialFault::Memory) => Err(OperationFault::Failed(EngineFault::Memory)),
+        Err(SerialFault::Memory) => Err(OperationFault::Failed(RanksFault::Memory)),
     }
 }
 
 /// Whether this engine, or one thread, can return this fault for want of memory.
 pub fn is_refusal(engine: Option<Engine>, fault: OperationFault) -> bool {
     match fault {
-        OperationFault::Failed(EngineFault::Memory) => true,
-        OperationFault::Failed(EngineFault::Lost { .. }) => engine.is_some(),
-        OperationFault::Failed(EngineFault::NotStarted(_)) => {
+        OperationFault::Failed(RanksFault::Memory) => true,
+        OperationFault::Failed(RanksFault::Lost { .. }) => engine.is_some(),
+        OperationFault::Failed(RanksFault::NotStarted(_)) => {
             matches!(engine, Some(Engine::Threads(_)) | Some(Engine::Traced(_)))
         }
         _ => false,

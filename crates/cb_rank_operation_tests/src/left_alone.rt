@@ -8,7 +8,7 @@ ghost use Rattle.cb_rank_runs.specs.Runs.{IsNewRun};
 
 use cb_letters::{Capacity, Tag};
 use cb_plan::{Act, CheckedPlan, Op, Plan, PlanFault, RankStore};
-use cb_rank_runs::{OpenGate, assemble, run_rank};
+use cb_rank_runs::{NoObserver, assemble, run_rank};
 use cb_samples::shape;
 use cb_semirings::MinPlus;
 use std::alloc::Global;
@@ -99,7 +99,7 @@ fn left_alone<R: Threads + Wait + Sync>(rt: &R, member: Member) -> Option<u16>
     requires { IsNewRun member.0 member.1 }
 {
     let (rank, desk) = member;
-    match run_rank(rt, rank, desk, &OpenGate) {
+    match run_rank(rt, rank, desk, &NoObserver) {
         Ok(_) => None,
         Err(gone) => Some(gone.0),
     }

@@ -3,7 +3,8 @@ use crate::examples::{AGREEING, Given, PRODUCT, Sample, grid, has, made, matrice
 use cb_layout::{DistributedMatrix, Grid};
 use cb_matrix::Matrix;
 use cb_operations::Operation;
-use cb_rank_engines::{Engine, EngineFault};
+use cb_rank_engines::Engine;
+use cb_rank_faults::RanksFault;
 use cb_rank_operations::{OperationFault, distances, levels};
 use cb_rank_world::Event;
 use cb_semirings::{MinPlus, Semiring};
@@ -80,7 +81,7 @@ fn path<S: Semiring>(alloc: Global, grid: &Grid) -> Option<DistributedMatrix<S>>
 /// The rank at which a block of an answer is lost.
 fn lost_at(made: Result<Matrix<MinPlus>, OperationFault>) -> Option<u16> {
     match made {
-        Err(OperationFault::Failed(EngineFault::Lost { rank, .. })) => Some(rank),
+        Err(OperationFault::Failed(RanksFault::Lost { rank, .. })) => Some(rank),
         _ => None,
     }
 }

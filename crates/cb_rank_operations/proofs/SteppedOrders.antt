@@ -12,8 +12,8 @@ use Rattle.cb_operations.specs.OperationAnswers.{matrix_at, shape_of, shapes_in}
 use Rattle.cb_planner.specs.OperationPlans.{Computes, placed_operands}
 use Rattle.cb_rank_engines.specs.declared.engines.Engine.{Engine}
 use Rattle.cb_rank_engines.specs.declared.engines.Engine.TheVariants.{Threads, Traced, InOrder}
-use Rattle.cb_rank_engines.specs.declared.engine_faults.EngineFault.{EngineFault}
-use Rattle.cb_rank_engines.specs.declared.engine_faults.EngineFault.TheVariants.{Lost}
+use Rattle.cb_rank_faults.specs.declared.RanksFault.{RanksFault}
+use Rattle.cb_rank_faults.specs.declared.RanksFault.TheVariants.{Lost}
 use Rattle.cb_rank_engines.specs.Orders.{IsSteppedLoss, IsSteppedRun, IsOrderedLoss, IsOrderedRun}
 use Rattle.cb_rank_engines.proofs.SteppedRuns.{of_its_order}
 use Rattle.cb_plan_vectors.specs.SpreadVectors.{MultipliesVectors}
@@ -54,7 +54,7 @@ module _ (s : Arithmetic) (q : ℕ) (ms : List Sparse) where
 
   -- a loss by an operation's plan is one of the operation
   pub lost_for : (operation : Operation) → operation ≢ MultiplyVector → (engine : Engine) (planned : Planned) → Computes operation q (shapes_in ms) planned →
-      (there : List (ℕ × Sparse)) → there ≡ placed_operands ms → (e : EngineFault) → IsOrderedLoss s engine q planned there e → IsLossFor s engine operation q ms (Failed e)
+      (there : List (ℕ × Sparse)) → there ≡ placed_operands ms → (e : RanksFault) → IsOrderedLoss s engine q planned there e → IsLossFor s engine operation q ms (Failed e)
   lost_for operation other engine planned computes there placed (Lost r count) loss =
       of_its_order engine (λ letters order. IsSteppedLoss s q planned there letters order r count) (λ letters order. IsSteppedLossFor s operation q ms letters order r count)
       (λ letters order is. lost_there operation other planned computes there placed letters order r count is) loss

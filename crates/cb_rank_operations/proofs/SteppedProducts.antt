@@ -9,8 +9,8 @@ use Rattle.cb_plan.specs.PlanTables.{IsTable}
 use Rattle.cb_plan_operations.specs.VectorPlans.{column}
 use Rattle.cb_rank.specs.Leavings.{HoldsMeaning}
 use Rattle.cb_rank_engines.specs.declared.engines.Engine.{Engine}
-use Rattle.cb_rank_engines.specs.declared.engine_faults.EngineFault.{EngineFault}
-use Rattle.cb_rank_engines.specs.declared.engine_faults.EngineFault.TheVariants.{Memory, Lost}
+use Rattle.cb_rank_faults.specs.declared.RanksFault.{RanksFault}
+use Rattle.cb_rank_faults.specs.declared.RanksFault.TheVariants.{Memory, Lost}
 use Rattle.cb_rank_engines.specs.Orders.{IsLeftInOrder, IsOrdered}
 use Rattle.cb_rank_engines.proofs.Lost.{left_means}
 use Rattle.cb_rank_engines.proofs.SteppedRuns.{of_its_order}
@@ -32,7 +32,7 @@ module _ (s : Arithmetic) (q : ℕ) (plan : CheckedView) (a x : Sparse) (first :
       (λ letters order left. record { first = first; has = has; stores = stores; left = left; held = held }) ordered
 
   -- a loss in such a run is one in a product
-  pub ordered_product_loss : (engine : Engine) → IsOrdered s engine plan first stores refusals → (e : EngineFault) → IsProductLoss stores refusals e → IsOrderedProductLoss s engine q plan a x e
+  pub ordered_product_loss : (engine : Engine) → IsOrdered s engine plan first stores refusals → (e : RanksFault) → IsProductLoss stores refusals e → IsOrderedProductLoss s engine q plan a x e
   ordered_product_loss engine ordered Memory h = tt
   ordered_product_loss engine ordered (Lost r count) h =
       of_its_order engine (λ letters order. IsLeftInOrder s plan first stores refusals letters order) (λ letters order. IsSteppedProductLoss s q plan a x letters order r count)

@@ -9,8 +9,8 @@ use Rattle.cb_searches.specs.declared.searches.Search.{Search}
 use Rattle.cb_searches.specs.Searches.{IsSearch}
 use Rattle.cb_rank_world.specs.declared.events.Event.{Event}
 use Rattle.cb_rank_engines.specs.declared.engines.Engine.{Engine}
-use Rattle.cb_rank_engines.specs.declared.engine_faults.EngineFault.{EngineFault}
-use Rattle.cb_rank_engines.specs.declared.engine_faults.EngineFault.TheVariants.{Lost}
+use Rattle.cb_rank_faults.specs.declared.RanksFault.{RanksFault}
+use Rattle.cb_rank_faults.specs.declared.RanksFault.TheVariants.{Lost}
 use Rattle.cb_rank_engines.specs.EngineRuns.{IsNoLoss}
 use Rattle.cb_rank_engines.proofs.SteppedRuns.{of_its_order}
 use Rattle.cb_plan_vectors.specs.SpreadVectors.{MultipliesVectors}
@@ -21,12 +21,12 @@ use Rattle.cb_rank_operations.specs.VectorOrders.{IsSteppedProductLoss, IsOrdere
 
 module _ (engine : Engine) (q : ℕ) (graph : Sparse) (source : ℕ) where
   -- a fault without a loss is none in a search
-  pub no_walk_loss : (e : EngineFault) → IsNoLoss e → IsWalkLoss engine q graph source (Failed e)
+  pub no_walk_loss : (e : RanksFault) → IsNoLoss e → IsWalkLoss engine q graph source (Failed e)
   no_walk_loss (Lost r count) none = absurd none
   no_walk_loss _ none = tt
 
   -- a loss in the transpose is one in the search
-  pub transpose_loss : (e : EngineFault) → IsLossFor min_plus engine Transpose q (graph ∷ []) (Failed e) → IsWalkLoss engine q graph source (Failed e)
+  pub transpose_loss : (e : RanksFault) → IsLossFor min_plus engine Transpose q (graph ∷ []) (Failed e) → IsWalkLoss engine q graph source (Failed e)
   transpose_loss (Lost r count) loss =
       of_its_order engine (λ letters order. IsSteppedLossFor min_plus Transpose q (graph ∷ []) letters order r count)
       (λ letters order. IsSteppedWalkLoss q graph source letters order r count) (λ letters order is. inl is) loss
@@ -48,7 +48,7 @@ module _ (engine : Engine) (q : ℕ) (graph : Sparse) (source : ℕ) where
     }
 
     -- a loss in a round's product is one in the search
-    pub round_loss : (e : EngineFault) → IsOrderedProductLoss min_plus engine q plan turned fell e → IsWalkLoss engine q graph source (Failed e)
+    pub round_loss : (e : RanksFault) → IsOrderedProductLoss min_plus engine q plan turned fell e → IsWalkLoss engine q graph source (Failed e)
     round_loss (Lost r count) loss =
         of_its_order engine (λ letters order. IsSteppedProductLoss min_plus q plan turned fell letters order r count)
         (λ letters order. IsSteppedWalkLoss q graph source letters order r count) (λ letters order is. inr (stepped_round_loss letters order r count is)) loss

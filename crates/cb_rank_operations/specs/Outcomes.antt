@@ -15,7 +15,7 @@ use Rattle.cb_rank_operations.specs.VectorOrders.{IsSteppedProduct, IsSteppedPro
 use Rattle.cb_rank_engines.specs.declared.engines.Engine.{Engine}
 use Rattle.cb_rank_engines.specs.declared.engines.Engine.TheVariants.{Threads, Traced, InOrder}
 use Rattle.cb_rank_engines.specs.declared.engines.Outcome.{Outcome}
-use Rattle.cb_rank_engines.specs.declared.engine_faults.EngineFault.TheVariants.{Lost}
+use Rattle.cb_rank_faults.specs.declared.RanksFault.TheVariants.{Lost}
 use Rattle.cb_rank_engines.specs.EngineRuns.{IsEngineFault, IsTraceOf, checked_of}
 use Rattle.cb_rank_world.specs.declared.events.Event.{Event}
 use Rattle.cb_rank_engines.specs.Orders.{IsSteppedLoss, IsSteppedRun, OfItsOrder}

@@ -10,7 +10,7 @@ use Rattle.cb_searches.specs.Searches.{HasEdges, IsSearch}
 use Rattle.cb_searches.specs.Walks.{AreLevels, AreDistances}
 use Rattle.cb_rank_world.specs.declared.events.Event.{Event}
 use Rattle.cb_rank_engines.specs.declared.engines.Engine.{Engine}
-use Rattle.cb_rank_engines.specs.declared.engine_faults.EngineFault.TheVariants.{Lost}
+use Rattle.cb_rank_faults.specs.declared.RanksFault.TheVariants.{Lost}
 use Rattle.cb_rank_engines.specs.EngineRuns.{IsEngineFault}
 use Rattle.cb_rank_engines.specs.Orders.{OfItsOrder}
 use Rattle.cb_rank_operations.specs.declared.operation_faults.OperationFault.{OperationFault}

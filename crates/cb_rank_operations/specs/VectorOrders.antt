@@ -6,8 +6,8 @@ use Rattle.cb_plan.specs.declared.stores.Slot.{Slot}
 use Rattle.cb_plan.specs.Plans.{CheckedView}
 use Rattle.cb_rank_world.specs.declared.events.Event.{Event}
 use Rattle.cb_rank_engines.specs.declared.engines.Engine.{Engine}
-use Rattle.cb_rank_engines.specs.declared.engine_faults.EngineFault.{EngineFault}
-use Rattle.cb_rank_engines.specs.declared.engine_faults.EngineFault.TheVariants.{Memory, Lost}
+use Rattle.cb_rank_faults.specs.declared.RanksFault.{RanksFault}
+use Rattle.cb_rank_faults.specs.declared.RanksFault.TheVariants.{Memory, Lost}
 use Rattle.cb_rank_engines.specs.EngineRuns.{IsLostBlock}
 use Rattle.cb_rank_engines.specs.Orders.{IsLeftInOrder, OfItsOrder}
 use Rattle.cb_plan_vectors.specs.SpreadVectors.{HasSpread, HasProduct}
@@ -33,7 +33,7 @@ abbrev pub LosePart : List (List (Slot Sparse)) → List ℕ → ℕ → ℕ →
 LosePart stores refusals r count = IsLostBlock 0 stores refusals r count ⊎ IsLostBlock 2 stores refusals r count
 
 -- why the blocks and the pieces that ranks left can't be gathered: memory was refused, or some of them are lost
-abbrev pub IsProductLoss : List (List (Slot Sparse)) → List ℕ → EngineFault → Type 0
+abbrev pub IsProductLoss : List (List (Slot Sparse)) → List ℕ → RanksFault → Type 0
 IsProductLoss stores refusals Memory = Unit {0}
 IsProductLoss stores refusals (Lost r count) = LosePart stores refusals r count
 IsProductLoss stores refusals _ = ⊥
@@ -50,6 +50,6 @@ pub record IsSteppedProductLoss (s : Arithmetic) (q : ℕ) (plan : CheckedView) 
   pub lost : LosePart stores refusals r count
 
 -- if one is lost, ranks lose it that are stepped in the engine's order, or, if its ranks run in threads, in some order
-abbrev pub IsOrderedProductLoss : Arithmetic → Engine → ℕ → CheckedView → Sparse → Sparse → EngineFault → Type 0
+abbrev pub IsOrderedProductLoss : Arithmetic → Engine → ℕ → CheckedView → Sparse → Sparse → RanksFault → Type 0
 IsOrderedProductLoss s engine q plan a x (Lost r count) = OfItsOrder engine (λ letters order. IsSteppedProductLoss s q plan a x letters order r count)
 IsOrderedProductLoss s engine q plan a x _ = Unit {0}

@@ -1,10 +1,10 @@
 //! Why an operation fails.
 ghost use Rattle.std.specs.Prelude.{◌≡◌};
-ghost use Rattle.cb_rank_engines.specs.declared.engine_faults.EngineFault.TheVariants.{Memory};
+ghost use Rattle.cb_rank_faults.specs.declared.RanksFault.TheVariants.{Memory};
 ghost use Rattle.cb_rank_operations.specs.declared.operation_faults.OperationFault.TheVariants.{Failed};
 
 use cb_operations::Refusal;
-use cb_rank_engines::EngineFault;
+use cb_rank_faults::RanksFault;
 use std::alloc::AllocError;
 use thiserror::Error;
 
@@ -16,13 +16,13 @@ pub enum OperationFault {
     Refused(Refusal),
     /// The engine fails.
     #[error("{0}")]
-    Failed(EngineFault),
+    Failed(RanksFault),
 }
 
-impl From<EngineFault> for OperationFault {
+impl From<RanksFault> for OperationFault {
     ghost from_gives = { λ engine fault. fault ≡ Failed engine };
 
-    fn from(fault: EngineFault) -> OperationFault {
+    fn from(fault: RanksFault) -> OperationFault {
         OperationFault::Failed(fault)
     }
 }
@@ -41,6 +41,6 @@ impl From<AllocError> for OperationFault {
     ghost from_gives = { λ _ fault. fault ≡ Failed Memory };
 
     fn from(_error: AllocError) -> OperationFault {
-        OperationFault::Failed(EngineFault::Memory)
+        OperationFault::Failed(RanksFault::Memory)
     }
 }

@@ -15,7 +15,8 @@ use cb_plan::{CheckedPlan, RankStore};
 use cb_plan_slots::DrainFault;
 use cb_plan_vectors::{collect, spread};
 use cb_rank_crews::{Crew, Naming};
-use cb_rank_engines::{Engine, EngineFault, Left};
+use cb_rank_engines::{Engine, Left};
+use cb_rank_faults::RanksFault;
 use cb_semirings::Semiring;
 use cb_trace::Trace;
 use std::alloc::Global;
@@ -48,7 +49,7 @@ pub fn multiply_vector<S: Semiring + Send + Sync, R: Threads + Wait + Sync>(
     plan: &CheckedPlan,
     matrix: DistributedMatrix<S>,
     vector: &Matrix<S>,
-) -> Result<Multiplied<S>, EngineFault>
+) -> Result<Multiplied<S>, RanksFault>
     requires side { matrix.side ≡ grid.now.side }
     requires plan { MultipliesVectors grid.now.side matrix.matrix.shape plan.now }
     requires vector { vector.now.shape ≡ column matrix.matrix.shape.cols }
@@ -74,7 +75,7 @@ pub(crate) fn multiply_vector_by<S: Semiring + Send + Sync, J: Naming, R: Thread
     plan: &CheckedPlan,
     matrix: DistributedMatrix<S>,
     vector: &Matrix<S>,
-) -> Result<Multiplied<S>, EngineFault>
+) -> Result<Multiplied<S>, RanksFault>
     requires side { matrix.side ≡ grid.now.side }
     requires plan { MultipliesVectors grid.now.side matrix.matrix.shape plan.now }
     requires vector { vector.now.shape ≡ column matrix.matrix.shape.cols }
@@ -112,7 +113,7 @@ fn collected<S: Semiring>(
     refusals: &[u64],
     shape: Shape,
     made: Shape,
-) -> Result<(DistributedMatrix<S>, Matrix<S>), EngineFault>
+) -> Result<(DistributedMatrix<S>, Matrix<S>), RanksFault>
     requires column { made.cols ≡ 1 }
     requires lost { LostWhereRefused stores.items refusals.now }
     requires left { (a : Sparse) × (y : Sparse) × HasBoth S.arithmetic grid.now.side shape made a y stores.items }
@@ -122,7 +123,7 @@ fn collected<S: Semiring>(
 {
     match collect(alloc, grid, stores, shape, made) {
         Ok(both) => Ok(both),
-        Err(DrainFault::Memory) => Err(EngineFault::Memory),
-        Err(DrainFault::Lost(rank)) => Err(EngineFault::lost(rank, refusals)),
+        Err(DrainFault::Memory) => Err(RanksFault::Memory),
+        Err(DrainFault::Lost(rank)) => Err(RanksFault::lost(rank, refusals)),
     }
 }

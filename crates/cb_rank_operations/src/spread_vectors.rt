@@ -15,7 +15,8 @@ use cb_matrix::{Matrix, Shape};
 use cb_operations::{Operands, Operation};
 use cb_plan::CheckedPlan;
 use cb_plan_vectors::vector_plan;
-use cb_rank_engines::{Engine, EngineFault, Outcome};
+use cb_rank_engines::{Engine, Outcome};
+use cb_rank_faults::RanksFault;
 use cb_semirings::Semiring;
 use std::alloc::{AllocError, Global};
 use std::sync::Wait;
@@ -29,7 +30,7 @@ pub fn run_vector<S: Semiring + Send + Sync, R: Threads + Wait + Sync>(
     engine: Engine,
     grid: &Grid,
     operands: Operands<DistributedMatrix<S>>,
-) -> Result<Outcome<S>, EngineFault>
+) -> Result<Outcome<S>, RanksFault>
     requires two { length (list_of operands) ≡ 2 }
     requires sides { LieOver grid.now.side operands }
     requires agree { Agree Operation.MultiplyVector (shapes_in (wholes (list_of operands))) }

@@ -26,8 +26,9 @@ use cb_operations::{Operands, Operation, check_graph};
 use cb_plan::CheckedPlan;
 use cb_plan_vectors::vector_plan;
 use cb_rank_crews::{Crew, Naming, Rings, hire};
-use cb_rank_engines::{Engine, EngineFault};
-use cb_rank_runs::OpenGate;
+use cb_rank_engines::Engine;
+use cb_rank_faults::RanksFault;
+use cb_rank_runs::NoObserver;
 use cb_searches::Search;
 use cb_semirings::{MinPlus, OrAnd, Semiring};
 use std::alloc::{AllocError, Global};
@@ -43,7 +44,7 @@ fn transposed<S: Semiring + Send + Sync, R: Threads + Wait + Sync>(
     engine: Engine,
     grid: &Grid,
     matrix: DistributedMatrix<S>,
-) -> Result<DistributedMatrix<S>, EngineFault>
+) -> Result<DistributedMatrix<S>, RanksFault>
     requires { matrix.side ≡ grid.now.side }
     ensures ok { IfOk result (λ m. m ≡ over_grid grid.now.side (transposed S.arithmetic matrix.matrix)) }
     ensures fault { IfErr result (IsEngineFault engine.entry (grid.now.side * grid.now.side)) }
@@ -70,7 +71,7 @@ fn nearest<R: Threads + Wait + Sync>(
     engine: Engine,
     graph: DistributedMatrix<MinPlus>,
     source: u32,
-) -> Result<Matrix<MinPlus>, EngineFault>
+) -> Result<Matrix<MinPlus>, RanksFault>
     requires { HasSource graph.matrix.shape source }
     ensures ok { IfOk result (λ column. AreDistances graph.matrix source column) }
     ensures fault { IfErr result (IsEngineFault engine.entry (graph.side * graph.side)) }
@@ -96,7 +97,7 @@ fn search_by_ranks<R: Threads + Wait + Sync>(
     plan: &CheckedPlan,
     edges: DistributedMatrix<MinPlus>,
     begun: Search,
-) -> Result<Search, EngineFault>
+) -> Result<Search, RanksFault>
     requires side { edges.side ≡ grid.now.side }
     requires plan { MultipliesVectors grid.now.side edges.matrix.shape plan.now }
     requires search { (a : Sparse) × (source : ℕ) × HasEdges edges.matrix a × IsSearch a source 0 begun }
@@ -110,7 +111,15 @@ fn search_by_ranks<R: Threads + Wait + Sync>(
     };
     let rings = Rings::open(alloc, plan.ranks())?;
     search_over::<Brand, R>(
-        rt, alloc, letters, rings, &OpenGate, grid, plan, edges, begun,
+        rt,
+        alloc,
+        letters,
+        rings,
+        &NoObserver,
+        grid,
+        plan,
+        edges,
+        begun,
     )
 }
 
@@ -120,12 +129,12 @@ fn search_over<J: Naming + Send + Sync, R: Threads + Wait + Sync>(
     alloc: Global,
     letters: usize,
     rings: Rings<MinPlus>,
-    gate: &OpenGate,
+    observer: &NoObserver,
     grid: &Grid,
     plan: &CheckedPlan,
     edges: DistributedMatrix<MinPlus>,
     begun: Search,
-) -> Result<Search, EngineFault>
+) -> Result<Search, RanksFault>
     requires names { (k : ℕ) → J.ring k ≡ slice_get rings k }
     requires count { length rings ≡ grid.now.side * grid.now.side }
     requires side { edges.side ≡ grid.now.side }
@@ -138,7 +147,7 @@ fn search_over<J: Naming + Send + Sync, R: Threads + Wait + Sync>(
     thread::scope(
         thread::scope_env(),
         rt,
-        move |scope| -> Result<Search, EngineFault>
+        move |scope| -> Result<Search, RanksFault>
             requires names { (k : ℕ) → J.ring k ≡ slice_get rings k }
             requires count { length rings ≡ grid.now.side * grid.now.side }
             requires side { edges.side ≡ grid.now.side }
@@ -148,7 +157,7 @@ fn search_over<J: Naming + Send + Sync, R: Threads + Wait + Sync>(
             ensures fault { IfErr result (IsEngineFault (Threads letters) (grid.entry.now.side * grid.entry.now.side)) }
             ensures lost { IfErr result (λ e. OfEachSearch edges.matrix begun (λ a s. IsWalkLoss (Threads letters) grid.entry.now.side a s (Failed e))) }
         {
-            let mut crew = Some(hired::<_, J, R>(scope, rt, alloc, rings, gate)?);
+            let mut crew = Some(hired::<_, J, R>(scope, rt, alloc, rings, observer)?);
             let engine = Engine::Threads(letters);
             search_on(rt, alloc, engine, &mut crew, grid, plan, edges, begun)
         },
@@ -161,13 +170,13 @@ fn hired<'s, E, J: Naming + Send + Sync + 's, R: Threads + Wait + Sync>(
     rt: &'s R,
     alloc: Global,
     rings: Rings<MinPlus>,
-    gate: &'s OpenGate,
-) -> Result<Crew<MinPlus, J>, EngineFault>
+    observer: &'s NoObserver,
+) -> Result<Crew<MinPlus, J>, RanksFault>
     requires names { (k : ℕ) → J.ring k ≡ slice_get rings k }
     ensures fault { IfErr result (λ e. (letters : ℕ) → IsEngineFault (Threads letters) (length rings) e) }
     ensures whole { IfErr result IsNoLoss }
 {
-    Ok(hire(scope, rt, alloc, rings, gate)?)
+    Ok(hire(scope, rt, alloc, rings, observer)?)
 }
 
 /// The same, by a crew if there is one.
@@ -180,7 +189,7 @@ fn search_on<J: Naming, R: Threads + Wait + Sync>(
     plan: &CheckedPlan,
     edges: DistributedMatrix<MinPlus>,
     begun: Search,
-) -> Result<Search, EngineFault>
+) -> Result<Search, RanksFault>
     requires side { edges.side ≡ grid.now.side }
     requires plan { MultipliesVectors grid.now.side edges.matrix.shape plan.now }
     requires search { (a : Sparse) × (source : ℕ) × HasEdges edges.matrix a × IsSearch a source 0 begun }
@@ -213,7 +222,7 @@ fn search_round<J: Naming, R: Threads + Wait + Sync>(
     plan: &CheckedPlan,
     edges: DistributedMatrix<MinPlus>,
     search: Search,
-) -> Result<(DistributedMatrix<MinPlus>, Search), EngineFault>
+) -> Result<(DistributedMatrix<MinPlus>, Search), RanksFault>
     requires side { edges.side ≡ grid.now.side }
     requires plan { MultipliesVectors grid.now.side edges.matrix.shape plan.now }
     requires search { (a : Sparse) × (source : ℕ) × (k : ℕ) × HasEdges edges.matrix a × IsSearch a source k search }

@@ -6,6 +6,8 @@
 -- FinishedCrew: the same of what the ranks left (`ends_all`, `few_refused`).
 -- LoggedEvents: the list of a whole log has the events that it was told of (`own_events`).
 -- CrewSoFar: loops over ranks.
+-- LeavingsSoFar: the loop that takes what each rank left (`HasJoined`); the first that left nothing (`first_gone`).
+-- NamedRanks: which ranks a failed run names (`gone_is_rank`, `least_gone`).
 -- OtherRanks: which ranks a run that gives up names; an error that is passed on (`err_is`).
 --
 -- The steps of this crate's own proofs:
@@ -24,6 +26,8 @@ pub mod Crews
 pub mod FinishedCrew
 pub mod LoggedEvents
 pub mod CrewSoFar
+pub mod LeavingsSoFar
+pub mod NamedRanks
 pub mod OtherRanks
 pub mod ShutLanes
 pub mod HalfOverDesk

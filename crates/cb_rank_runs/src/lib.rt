@@ -4,7 +4,7 @@
 //! rank to another goes in a letter: a copy of a block, or a block that is lent, which nobody changes as long as it is.
 //!
 //! - [`assemble`] makes the ranks of a plan, each with its desk.
-//! - [`run_rank`] does one rank's halves in order on its caller's thread. Before each half it calls the [`Gate`]. A half
+//! - [`run_rank`] does one rank's halves in order on its caller's thread. Before each half it calls the [`Observer`]. A half
 //!   waits while its lane has no room for its letter, or no letter for it. A rank that finds another one gone gives up,
 //!   and is dropped. [`run_recorded`] also tells a [`Recorder`] what the rank posts and takes. A [`Log`] records that in a
 //!   shared trace and in a list of the rank's own.
@@ -16,14 +16,14 @@
 
 mod crew;
 mod finished;
-mod gates;
 mod logs;
+mod observers;
 mod recorders;
 mod runs;
 
 pub use crew::{Member, assemble};
 pub use finished::{Finished, Remains};
-pub use gates::{Gate, OpenGate};
 pub use logs::{Log, events_of, lists_of};
+pub use observers::{NoObserver, Observer};
 pub use recorders::{Recorder, Silent};
 pub use runs::{run_rank, run_recorded};

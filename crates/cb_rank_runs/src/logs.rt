@@ -3,7 +3,7 @@ ghost use Rattle.std.specs.Prelude.{◌≡◌, length, map, IfOk, IfSome, vec_le
 ghost use Rattle.cb_rank_runs.specs.Logs.{Keeps, AreNewLogs, AreWhole, lists_in};
 ghost use Rattle.cb_rank_runs.specs.Rooms.{HasRoomFor};
 
-use crate::gates::Gate;
+use crate::observers::Observer;
 use crate::recorders::Recorder;
 use cb_plan::{Act, CheckedPlan};
 use cb_semirings::Semiring;
@@ -15,16 +15,16 @@ use std::sync::Wait;
 /// One rank's own list of its events. Each is also recorded in the shared trace. If an event isn't recorded in both, the
 /// log is torn.
 #[derive(Drop)]
-pub struct Log<'a, S: Semiring, G: Gate<S>> {
+pub struct Log<'a, S: Semiring, O: Observer<S>> {
     rank: u16,
     trace: &'a SharedTrace,
-    gate: &'a G,
+    observer: &'a O,
     events: Vec<TraceEvent>,
     is_torn: bool,
     of: PhantomData<S>,
 }
 
-impl<'a, S: Semiring + Send, G: Gate<S>> Recorder for Log<'a, S, G> {
+impl<'a, S: Semiring + Send, O: Observer<S>> Recorder for Log<'a, S, O> {
     ghost tells = { Keeps };
 
     fn tell<R: Wait>(&mut self, rt: &R, event: TraceEvent) {
@@ -35,18 +35,18 @@ impl<'a, S: Semiring + Send, G: Gate<S>> Recorder for Log<'a, S, G> {
         if self.events.push(event).is_err() {
             self.is_torn = true;
         }
-        self.gate.recorded(self.rank, place);
+        self.observer.recorded(self.rank, place);
     }
 }
 
-impl<'a, S: Semiring, G: Gate<S>> Log<'a, S, G> {
+impl<'a, S: Semiring, O: Observer<S>> Log<'a, S, O> {
     /// A new log for each rank of a plan, with exactly the room that its program needs.
     pub fn open(
         alloc: Global,
         plan: &CheckedPlan,
         trace: &'a SharedTrace,
-        gate: &'a G,
-    ) -> Result<Vec<Log<'a, S, G>>, AllocError>
+        observer: &'a O,
+    ) -> Result<Vec<Log<'a, S, O>>, AllocError>
         ensures { IfOk result (λ logs. (length logs.items ≡ plan.now.ranks) × AreNewLogs logs.items) }
     {
         let mut logs = Vec::with_capacity(alloc, plan.ranks() as usize)?;
@@ -55,7 +55,7 @@ impl<'a, S: Semiring, G: Gate<S>> Log<'a, S, G> {
             logs.push_reserved(Log {
                 rank,
                 trace,
-                gate,
+                observer,
                 events: Vec::with_capacity(alloc, room)?,
                 is_torn: false,
                 of: PhantomData,
@@ -85,8 +85,8 @@ fn is_told(act: &Act, rank: u16) -> bool {
 }
 
 /// The lists of these logs, in the room for them. None if a log is torn.
-pub fn lists_of<S: Semiring, G: Gate<S>>(
-    logs: Vec<Log<'_, S, G>>,
+pub fn lists_of<S: Semiring, O: Observer<S>>(
+    logs: Vec<Log<'_, S, O>>,
     room: Vec<Vec<TraceEvent>>,
 ) -> Option<Vec<Vec<TraceEvent>>>
     requires room { HasRoomFor (vec_len logs) room }

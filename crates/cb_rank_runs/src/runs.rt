@@ -7,7 +7,7 @@ ghost use Rattle.cb_rank_runs.specs.Runs.{IsNewRun, IsOther, Runs};
 ghost use Rattle.cb_rank_runs.specs.Told.{TellsProgram};
 ghost use Rattle.cb_rank_runs.specs.UnderWay.{IsUnderWay, DoesNext, TellsNext, arrival_event};
 
-use crate::gates::Gate;
+use crate::observers::Observer;
 use crate::recorders::{Recorder, Silent};
 use cb_lanes::{Desk, Gone};
 use cb_letters::{Tag, Taken};
@@ -18,32 +18,37 @@ use cb_trace::{Envelope, TraceEvent};
 use std::sync::Wait;
 use std::thread::Threads;
 
-/// Does all halves of one rank, in order, on its caller's thread, and returns the rank and its desk. It calls the gate
+/// Does all halves of one rank, in order, on its caller's thread, and returns the rank and its desk. It calls the observer
 /// before each half, and waits until the half can be done. Halves that add products to the same slot, one directly after the
-/// other, are done at once where the gate allows it.
+/// other, are done at once where the observer allows it.
 ///
 /// `Gone` names the rank at the other end of a lane, if its desk is gone, or if something arrived from it that the half
 /// doesn't wait for. The rank and its desk are dropped then, so that a rank that waits for this one finds it gone too.
-pub fn run_rank<S: Semiring + Send + Sync, R: Threads + Wait + Sync, G: Gate<S>>(
+pub fn run_rank<S: Semiring + Send + Sync, R: Threads + Wait + Sync, O: Observer<S>>(
     rt: &R,
     rank: Rank<S>,
     desk: Desk<SharedBlock<S>>,
-    gate: &G,
+    observer: &O,
 ) -> Result<(Rank<S>, Desk<SharedBlock<S>>), Gone>
     requires { IsNewRun rank desk }
     ensures runs { IfOk result (λ r. Runs S.arithmetic rank desk r.0 r.1) }
     ensures gone { IfErr result (λ e. IsOther rank e.0) }
 {
-    let (rank, desk, Silent) = run_recorded(rt, rank, desk, gate, Silent)?;
+    let (rank, desk, Silent) = run_recorded(rt, rank, desk, observer, Silent)?;
     Ok((rank, desk))
 }
 
 /// Does the same as [`run_rank`], and tells a recorder of each event of the rank's program, in order. The recorder is returned too.
-pub fn run_recorded<S: Semiring + Send + Sync, R: Threads + Wait + Sync, G: Gate<S>, T: Recorder>(
+pub fn run_recorded<
+    S: Semiring + Send + Sync,
+    R: Threads + Wait + Sync,
+    O: Observer<S>,
+    T: Recorder,
+>(
     rt: &R,
     rank: Rank<S>,
     desk: Desk<SharedBlock<S>>,
-    gate: &G,
+    observer: &O,
     recorder: T,
 ) -> Result<(Rank<S>, Desk<SharedBlock<S>>, T), Gone>
     requires { IsNewRun rank desk }
@@ -55,8 +60,8 @@ pub fn run_recorded<S: Semiring + Send + Sync, R: Threads + Wait + Sync, G: Gate
     let mut desk = desk;
     let mut recorder = recorder;
     while rank.want() != Want::Done {
-        gate.pass(desk.rank(), &rank);
-        if does_all(rt, &mut rank, gate.parts_halves()) {
+        observer.observe(desk.rank(), &rank);
+        if does_all(rt, &mut rank, observer.parts_halves()) {
             continue;
         }
         do_half(rt, &mut rank, &mut desk, &mut recorder)?;

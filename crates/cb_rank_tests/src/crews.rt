@@ -1,11 +1,11 @@
 //! A crew of two workers that runs one plan after the other, also after one for which memory was refused.
 ghost use Rattle.std.specs.Prelude.{ℕ, ◌≡◌, slice_get, IfErr, IfOk};
 ghost use Rattle.cb_semirings.specs.Tables.{plus_times};
+ghost use Rattle.cb_rank_faults.specs.declared.RanksFault.TheVariants.{Memory};
 ghost use Rattle.cb_plan.specs.Stores.{Fits};
 ghost use Rattle.cb_rank_runs.specs.Finished.{LanesHold};
+ghost use Rattle.cb_rank_runs.specs.NamedRanks.{NamesLeast};
 ghost use Rattle.cb_rank_runs.specs.Views.{finished_view};
-ghost use Rattle.cb_rank_threads.specs.Faults.{NamesLeast};
-ghost use Rattle.cb_rank_threads.specs.declared.faults.RunFault.TheVariants.{Memory};
 ghost use Rattle.cb_rank_crews.specs.Crews.{size};
 
 use crate::plans::{Held, doubling};
@@ -13,8 +13,8 @@ use crate::ranks::left_at_0;
 use cb_letters::Capacity;
 use cb_plan::{CheckedPlan, RankStore};
 use cb_rank_crews::{Crew, Naming, Rings, hire};
-use cb_rank_runs::{Finished, OpenGate};
-use cb_rank_threads::RunFault;
+use cb_rank_faults::RanksFault;
+use cb_rank_runs::{Finished, NoObserver};
 use cb_semirings::PlusTimes;
 use std::alloc::Global;
 use std::marker::Brand;
@@ -30,7 +30,7 @@ fn run_plan<J: Naming, R: Wait>(
     plan: &CheckedPlan,
     stores: Vec<RankStore<PlusTimes>>,
     capacity: Capacity,
-) -> Result<Finished<PlusTimes>, RunFault>
+) -> Result<Finished<PlusTimes>, RanksFault>
     requires fits { Fits plan.now.ranks plan.now.starts stores.items }
     requires workers { size crew.old ≡ plan.now.ranks }
     ensures lanes { IfOk result (λ finished. LanesHold plan.now.ranks capacity (finished_view finished)) }
@@ -72,7 +72,7 @@ fn doubled<J: Naming, R: Wait>(rt: &R, alloc: Global, crew: &mut Crew<PlusTimes,
     }
     match run_plan(rt, alloc, crew, &plan, stores, Capacity::nearest(1)) {
         Ok(finished) => outcome_of(finished),
-        Err(RunFault::Memory) => Outcome::Refused,
+        Err(RanksFault::Memory) => Outcome::Refused,
         Err(_) => Outcome::Wrong,
     }
 }
@@ -91,7 +91,13 @@ fn hired_runs_twice<J: Naming + Send + Sync, R: Threads + Wait + Sync>(
         move |scope| -> Option<[Outcome; 2]>
             requires { (k : ℕ) → J.ring k ≡ slice_get rings k }
         {
-            let hired = hire::<_, PlusTimes, J, R, OpenGate>(scope, rt, alloc, rings, &OpenGate);
+            let hired = hire::<_, PlusTimes, J, R, NoObserver>(
+                scope,
+                rt,
+                alloc,
+                rings,
+                &NoObserver,
+            );
             let mut crew = hired.ok()?;
             let first = doubled(rt, alloc, &mut crew);
             Some([first, doubled(rt, alloc, &mut crew)])

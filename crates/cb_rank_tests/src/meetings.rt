@@ -7,7 +7,7 @@ use crate::examples::{product_blocks, results, two_by_two};
 use cb_letters::Capacity;
 use cb_plan::{CheckedPlan, Half, RankStore};
 use cb_rank::{Rank, Want};
-use cb_rank_runs::{Finished, Gate};
+use cb_rank_runs::{Finished, Observer};
 use cb_rank_threads::run_threads;
 use cb_semirings::{PlusTimes, Semiring};
 use std::alloc::Global;
@@ -54,7 +54,7 @@ impl Pair {
     }
 }
 
-/// How far a rank has come when it passes the gate.
+/// How far a rank has come when it is observed.
 #[derive(Clone, Copy, PartialEq, Drop)]
 enum Moment {
     /// It has done nothing.
@@ -81,7 +81,7 @@ fn moment_of(wants: &[Want]) -> Moment {
     }
 }
 
-/// What each of four ranks wanted whenever it passed the gate, and two meetings: ranks 0 and 1 meet in their first pass,
+/// What each of four ranks wanted whenever it was observed, and two meetings: ranks 0 and 1 meet in their first pass,
 /// ranks 1 and 2 in the pass after their first Take.
 #[derive(Drop)]
 struct Passes {
@@ -143,15 +143,15 @@ impl Passes {
     }
 }
 
-/// The gate that records the passes.
+/// The observer that records the passes.
 #[derive(Drop)]
 struct Keeper<'a, R: Wait> {
     rt: &'a R,
     passes: Passes,
 }
 
-impl<'a, S: Semiring, R: Wait + Sync> Gate<S> for Keeper<'a, R> {
-    fn pass(&self, rank: u16, state: &Rank<S>) {
+impl<'a, S: Semiring, R: Wait + Sync> Observer<S> for Keeper<'a, R> {
+    fn observe(&self, rank: u16, state: &Rank<S>) {
         if rank > 3 {
             return;
         }
@@ -221,12 +221,12 @@ fn leave_product<R: Threads + Wait + Sync>(
     alloc: Global,
     plan: &CheckedPlan,
     stores: Vec<RankStore<PlusTimes>>,
-    gate: &Keeper<'_, R>,
+    observer: &Keeper<'_, R>,
 ) -> bool
     requires fits { Fits plan.now.ranks plan.now.starts stores.items }
     requires ranks { plan.now.ranks ≡ 4 }
 {
-    match run_threads(rt, alloc, plan, stores, Capacity::nearest(1), gate) {
+    match run_threads(rt, alloc, plan, stores, Capacity::nearest(1), observer) {
         Ok(finished) => is_product(finished),
         Err(_) => false,
     }
@@ -236,9 +236,9 @@ fn leave_product<R: Threads + Wait + Sync>(
 fn meet_and_leave_product<R: Threads + Wait + Sync>(rt: &R, alloc: Global) -> Option<bool> {
     let (plan, stores) = two_by_two(alloc, 2)?;
     let passes = Passes::new(alloc);
-    let gate = Keeper { rt, passes };
-    let leave_product = leave_product(rt, alloc, &plan, stores, &gate);
-    Some(leave_product & are_met(rt, alloc, &plan, &gate.passes))
+    let observer = Keeper { rt, passes };
+    let leave_product = leave_product(rt, alloc, &plan, stores, &observer);
+    Some(leave_product & are_met(rt, alloc, &plan, &observer.passes))
 }
 
 #[test]

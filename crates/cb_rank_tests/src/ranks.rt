@@ -8,17 +8,18 @@ ghost use Rattle.cb_plan.specs.Stores.{Fits};
 ghost use Rattle.cb_rank.specs.Ranks.{ArePortsOf};
 ghost use Rattle.cb_rank_runs.specs.Crews.{AreNew};
 ghost use Rattle.cb_rank_runs.specs.Finished.{LanesHold};
+ghost use Rattle.cb_rank_runs.specs.NamedRanks.{NamesLeast};
 ghost use Rattle.cb_rank_runs.specs.Runs.{IsNewRun};
 ghost use Rattle.cb_rank_runs.specs.Views.{finished_view};
-ghost use Rattle.cb_rank_threads.specs.Faults.{NamesLeast};
 
 use crate::plans::{Held, contents_at, contents_of, doubling, rally};
 use cb_lanes::{Desk, Gone};
 use cb_letters::Capacity;
 use cb_plan::{CheckedPlan, RankStore, SLOTS, SharedBlock};
 use cb_rank::{Moved, Rank, Supply};
-use cb_rank_runs::{Finished, Gate, Member, OpenGate, assemble, run_rank};
-use cb_rank_threads::{RunFault, run_threads, run_traced};
+use cb_rank_faults::RanksFault;
+use cb_rank_runs::{Finished, Member, NoObserver, Observer, assemble, run_rank};
+use cb_rank_threads::{run_threads, run_traced};
 use cb_semirings::{PlusTimes, Semiring};
 use cb_trace::{Trace, TraceEvent};
 use std::alloc::Global;
@@ -115,7 +116,7 @@ fn held_after<R: Threads + Wait + Sync>(
     requires slot { slot < SLOTS }
 {
     let (rank, desk) = member;
-    match run_rank(rt, rank, desk, &OpenGate) {
+    match run_rank(rt, rank, desk, &NoObserver) {
         Ok((rank, _desk)) => Some(contents_of(&rank.into_store(), slot)),
         Err(_) => None,
     }
@@ -161,7 +162,7 @@ fn given_up_by<R: Threads + Wait + Sync>(rt: &R, member: Member<PlusTimes>) -> O
     requires { IsNewRun member.0 member.1 }
 {
     let (rank, desk) = member;
-    run_rank(rt, rank, desk, &OpenGate).err()
+    run_rank(rt, rank, desk, &NoObserver).err()
 }
 
 /// The rank that the first of two finds gone if the second is.
@@ -222,8 +223,8 @@ impl Counter {
     }
 }
 
-impl<S: Semiring> Gate<S> for Counter {
-    fn pass(&self, _rank: u16, _state: &Rank<S>) {
+impl<S: Semiring> Observer<S> for Counter {
+    fn observe(&self, _rank: u16, _state: &Rank<S>) {
         self.passes.fetch_add(1, Ordering::SeqCst);
     }
 }
@@ -235,20 +236,20 @@ fn run_plan<R: Threads + Wait + Sync>(
     plan: &CheckedPlan,
     stores: Vec<RankStore<PlusTimes>>,
     capacity: Capacity,
-    gate: &Counter,
-) -> Result<Finished<PlusTimes>, RunFault>
+    observer: &Counter,
+) -> Result<Finished<PlusTimes>, RanksFault>
     requires { Fits plan.now.ranks plan.now.starts stores.items }
     ensures lanes { IfOk result (λ finished. LanesHold plan.now.ranks capacity (finished_view finished)) }
     ensures least { IfErr result (NamesLeast plus_times plan.now stores.items) }
 {
-    run_threads(rt, alloc, plan, stores, capacity, gate)
+    run_threads(rt, alloc, plan, stores, capacity, observer)
 }
 
 /// Whether a run failed since memory was refused: before any rank ran, or as a thread was started.
-fn is_refusal(fault: RunFault, counter: &Counter) -> bool {
+fn is_refusal(fault: RanksFault, counter: &Counter) -> bool {
     match fault {
-        RunFault::Memory => !counter.has_any(),
-        RunFault::NotStarted(_) => true,
+        RanksFault::Memory => !counter.has_any(),
+        RanksFault::NotStarted(_) => true,
         _ => false,
     }
 }
@@ -258,11 +259,11 @@ fn ran<R: Threads + Wait + Sync>(
     rt: &R,
     alloc: Global,
     letters: usize,
-    gate: &Counter,
-) -> Option<Result<Finished<PlusTimes>, RunFault>> {
+    observer: &Counter,
+) -> Option<Result<Finished<PlusTimes>, RanksFault>> {
     let (plan, stores) = doubling(alloc, 3)?;
     let capacity = Capacity::nearest(letters);
-    Some(run_plan(rt, alloc, &plan, stores, capacity, gate))
+    Some(run_plan(rt, alloc, &plan, stores, capacity, observer))
 }
 
 #[test]
@@ -309,7 +310,7 @@ fn takes_follow_posts(trace: &Trace) -> bool {
 fn rally_is_legal<R: Threads + Wait + Sync>(rt: &R, alloc: Global, rounds: u32) -> Option<bool> {
     let (plan, stores) = rally(alloc, rounds)?;
     let capacity = Capacity::nearest(1);
-    match run_traced(rt, alloc, &plan, stores, capacity, &OpenGate) {
+    match run_traced(rt, alloc, &plan, stores, capacity, &NoObserver) {
         Ok((_finished, trace)) => Some(takes_follow_posts(&trace)),
         Err(_) => None,
     }
@@ -332,11 +333,11 @@ fn ran_traced<R: Threads + Wait + Sync>(
     rt: &R,
     alloc: Global,
     letters: usize,
-    gate: &Counter,
-) -> Option<Result<(Finished<PlusTimes>, Trace), RunFault>> {
+    observer: &Counter,
+) -> Option<Result<(Finished<PlusTimes>, Trace), RanksFault>> {
     let (plan, stores) = doubling(alloc, 3)?;
     let capacity = Capacity::nearest(letters);
-    Some(run_traced(rt, alloc, &plan, stores, capacity, gate))
+    Some(run_traced(rt, alloc, &plan, stores, capacity, observer))
 }
 
 /// Passes whichever allocation is refused, like the test of a run without a trace.

@@ -2,7 +2,7 @@
 use crate::examples::two_by_two;
 use cb_letters::Capacity;
 use cb_rank::{Rank, Want};
-use cb_rank_runs::Gate;
+use cb_rank_runs::Observer;
 use cb_rank_threads::run_traced;
 use cb_semirings::Semiring;
 use cb_trace::Trace;
@@ -50,15 +50,15 @@ impl Story {
     }
 }
 
-/// A gate that records the story of each rank.
+/// An observer that records the story of each rank.
 #[derive(Drop)]
 struct Scribe<'a, R: Wait> {
     rt: &'a R,
     stories: Vec<Mutex<Story>>,
 }
 
-impl<'a, S: Semiring, R: Wait + Sync> Gate<S> for Scribe<'a, R> {
-    fn pass(&self, rank: u16, state: &Rank<S>) {
+impl<'a, S: Semiring, R: Wait + Sync> Observer<S> for Scribe<'a, R> {
+    fn observe(&self, rank: u16, state: &Rank<S>) {
         if let Some(story) = self.stories.get(usize::from(rank)) {
             story.lock(self.rt).pass(state.want());
         }

@@ -13,7 +13,7 @@ use Rattle.cb_rank_threads.specs.ToldCrews.{HaveToldPlan}
 use Rattle.cb_rank_threads.specs.Traced.{AreOfProgram, HasProgram}
 
 -- whole logs that were told of the programs of a plan have their events
-pub of_program : {S G : Type 0} (p : CheckedView) (olds news : List (Log S G)) (lists : List (List TraceEvent)) → AreNewLogs olds → HaveToldPlan Keeps p olds news
+pub of_program : {S O : Type 0} (p : CheckedView) (olds news : List (Log S O)) (lists : List (List TraceEvent)) → AreNewLogs olds → HaveToldPlan Keeps p olds news
     → AreWhole news → lists ≡ lists_in news → AreOfProgram p lists
 of_program p olds news lists begun told whole same = record {
   count = ap length same ∙ list_of_each news ∙ told.count;

@@ -1,4 +1,4 @@
-pub mod Faults
+pub mod ThreadFaults
 pub mod Started
 pub mod ThreadRooms
 pub mod ToldCrews

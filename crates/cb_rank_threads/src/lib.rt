@@ -13,13 +13,12 @@
 //! contract claims that a run terminates.
 #![tactic(auto)]
 
-mod faults;
+mod crew_faults;
 mod promises;
 mod rank_threads;
 mod rooms;
 mod threads;
 mod traced;
 
-pub use faults::RunFault;
 pub use threads::run_threads;
 pub use traced::run_traced;

@@ -12,7 +12,7 @@ use crate::promises::{RunOf, Running};
 use cb_lanes::{Desk, Gone};
 use cb_plan::SharedBlock;
 use cb_rank::Rank;
-use cb_rank_runs::{Gate, Member, Recorder, run_recorded};
+use cb_rank_runs::{Member, Observer, Recorder, run_recorded};
 use cb_semirings::Semiring;
 use std::snapshot::Snapshot;
 use std::sync::Wait;
@@ -58,7 +58,7 @@ pub(crate) fn start<
     E,
     S: Semiring + Send + Sync + 's,
     R: Threads + Wait + Sync,
-    G: Gate<S>,
+    O: Observer<S>,
     T: Recorder + 's,
 >(
     scope: &Scope<'s, E>,
@@ -66,7 +66,7 @@ pub(crate) fn start<
     rank: Rank<S>,
     desk: Desk<SharedBlock<S>>,
     recorder: T,
-    gate: &'s G,
+    observer: &'s O,
 ) -> Result<Running<S, T>, NoThread>
     requires { IsNewRun rank desk }
     ensures started { IfOk result (λ running. (started running ≡ (rank, desk)) × (started_recorder running ≡ recorder)) }
@@ -86,7 +86,7 @@ pub(crate) fn start<
         promise,
         move || -> Result<(Rank<S>, Desk<SharedBlock<S>>, T), Gone>
             requires { IsSync R.row × IsNewRun rank desk }
-        { run_recorded(rt, rank, desk, gate, recorder) },
+        { run_recorded(rt, rank, desk, observer, recorder) },
     );
     let Ok(thread) = started else {
         return Err(NoThread { rank: number });

@@ -1,25 +1,27 @@
 //! A thread for each rank, in one scope. The threads are started in order, and all are joined before the scope ends.
 ghost use Rattle.std.specs.Prelude.{◌≡◌, ◌≤◌, length, map, IfOk, IfErr, OnOk, IfSome, IfNone, vec_len};
 ghost use Rattle.std.specs.List.{AllZip};
+ghost use Rattle.cb_rank_faults.specs.declared.RanksFault.TheVariants.{Memory};
 ghost use Rattle.cb_plan.specs.Stores.{Fits};
 ghost use Rattle.cb_rank_runs.specs.Crews.{AreNew, Ran};
 ghost use Rattle.cb_rank_runs.specs.Finished.{FinishesPlan, LanesHold};
+ghost use Rattle.cb_rank_runs.specs.NamedRanks.{IsFirstGone, IsOneOf, IsFaultOf, NamesLeast};
 ghost use Rattle.cb_rank_runs.specs.Rooms.{HasRoomFor};
 ghost use Rattle.cb_rank_runs.specs.Views.{finished_view};
-ghost use Rattle.cb_rank_threads.specs.Faults.{ComesAfter, IsFirstGone, IsOneOf, IsFaultIn, IsFaultOf, NamesLeast};
+ghost use Rattle.cb_rank_threads.specs.ThreadFaults.{ComesAfter, IsFaultIn};
 ghost use Rattle.cb_rank_threads.specs.Started.{started, started_recorder};
 ghost use Rattle.cb_rank_threads.specs.ThreadRooms.{IsRoomFor, HaveRoomFor};
 ghost use Rattle.cb_rank_threads.specs.ToldCrews.{HaveTold, HaveToldPlan};
-ghost use Rattle.cb_rank_threads.specs.declared.faults.RunFault.TheVariants.{Memory};
 ghost use mathlib.Core.List.{IsPrefix};
 
-use crate::faults::{CrewFault, RunFault};
+use crate::crew_faults::CrewFault;
 use crate::promises::Running;
 use crate::rank_threads::{LeftAlone, NoThread, join, start};
 use crate::rooms::Room;
 use cb_letters::Capacity;
 use cb_plan::{CheckedPlan, RankStore};
-use cb_rank_runs::{Finished, Gate, Member, Recorder, Remains, Silent, assemble};
+use cb_rank_faults::RanksFault;
+use cb_rank_runs::{Finished, Member, Observer, Recorder, Remains, Silent, assemble};
 use cb_semirings::Semiring;
 use std::alloc::Global;
 use std::sync::Wait;
@@ -32,14 +34,14 @@ use std::{mem, thread};
 ///
 /// All memory is taken before the first thread is started, except for the ranks' own work and the threads. On a fault
 /// the stores are dropped, once every thread has ended.
-pub fn run_threads<S: Semiring + Send + Sync, R: Threads + Wait + Sync, G: Gate<S>>(
+pub fn run_threads<S: Semiring + Send + Sync, R: Threads + Wait + Sync, O: Observer<S>>(
     rt: &R,
     alloc: Global,
     plan: &CheckedPlan,
     stores: Vec<RankStore<S>>,
     capacity: Capacity,
-    gate: &G,
-) -> Result<Finished<S>, RunFault>
+    observer: &O,
+) -> Result<Finished<S>, RanksFault>
     requires { Fits plan.now.ranks plan.now.starts stores.items }
     ensures meaning { IfOk result (λ finished. FinishesPlan S.arithmetic plan.now stores.items (finished_view finished)) }
     ensures lanes { IfOk result (λ finished. LanesHold plan.now.ranks capacity (finished_view finished)) }
@@ -47,7 +49,7 @@ pub fn run_threads<S: Semiring + Send + Sync, R: Threads + Wait + Sync, G: Gate<
     ensures least { IfErr result (NamesLeast S.arithmetic plan.now stores.items) }
 {
     let mut recorders = vec![in alloc; Silent; plan.ranks() as usize]?;
-    run_told(rt, alloc, plan, stores, capacity, gate, &mut recorders)
+    run_told(rt, alloc, plan, stores, capacity, observer, &mut recorders)
 }
 
 /// The same, with a recorder for each rank, which is told of the rank's events. If memory is refused, none was told of
@@ -55,7 +57,7 @@ pub fn run_threads<S: Semiring + Send + Sync, R: Threads + Wait + Sync, G: Gate<
 pub(crate) fn run_told<
     S: Semiring + Send + Sync,
     R: Threads + Wait + Sync,
-    G: Gate<S>,
+    O: Observer<S>,
     T: Recorder,
 >(
     rt: &R,
@@ -63,9 +65,9 @@ pub(crate) fn run_told<
     plan: &CheckedPlan,
     stores: Vec<RankStore<S>>,
     capacity: Capacity,
-    gate: &G,
+    observer: &O,
     recorders: &mut Vec<T>,
-) -> Result<Finished<S>, RunFault>
+) -> Result<Finished<S>, RanksFault>
     requires fits { Fits plan.now.ranks plan.now.starts stores.items }
     requires count { length recorders.old.items ≡ plan.now.ranks }
     ensures meaning { IfOk result (λ finished. FinishesPlan S.arithmetic plan.now stores.items (finished_view finished)) }
@@ -80,7 +82,7 @@ pub(crate) fn run_told<
     let room = Room::with_room(alloc, ranks)?;
     let remains = Remains::with_room(alloc, ranks)?;
     let unused = mem::replace(recorders, Vec::new(alloc));
-    let (done, told) = run_crew(rt, crew, unused, room, gate)?;
+    let (done, told) = run_crew(rt, crew, unused, room, observer)?;
     *recorders = told;
     Ok(remains.finish(done))
 }
@@ -92,7 +94,7 @@ fn start_all<
     E,
     S: Semiring + Send + Sync + 's,
     R: Threads + Wait + Sync,
-    G: Gate<S>,
+    O: Observer<S>,
     T: Recorder + 's,
 >(
     scope: &Scope<'s, E>,
@@ -100,7 +102,7 @@ fn start_all<
     crew: Vec<Member<S>>,
     recorders: Vec<T>,
     room: Vec<Running<S, T>>,
-    gate: &'s G,
+    observer: &'s O,
 ) -> (Vec<Running<S, T>>, Option<NoThread>)
     requires new { AreNew crew.items }
     requires recorders { length recorders.items ≡ length crew.items }
@@ -114,7 +116,7 @@ fn start_all<
 {
     let mut threads = room;
     for ((rank, desk), recorder) in crew.into_iter().zip(recorders) {
-        match start(scope, rt, rank, desk, recorder, gate) {
+        match start(scope, rt, rank, desk, recorder, observer) {
             Ok(thread) => threads.push_reserved(thread),
             Err(none) => return (threads, Some(none)),
         }
@@ -155,12 +157,12 @@ fn join_all<S: Semiring, R: Threads, T: Recorder>(
 
 /// Runs each rank over its desk in a thread of its own, and returns them with their recorders. It takes no memory, except
 /// for the threads.
-fn run_crew<S: Semiring + Send + Sync, R: Threads + Wait + Sync, G: Gate<S>, T: Recorder>(
+fn run_crew<S: Semiring + Send + Sync, R: Threads + Wait + Sync, O: Observer<S>, T: Recorder>(
     rt: &R,
     crew: Vec<Member<S>>,
     recorders: Vec<T>,
     room: Room<S, T>,
-    gate: &G,
+    observer: &O,
 ) -> Result<(Vec<Member<S>>, Vec<T>), CrewFault>
     requires new { AreNew crew.items }
     requires recorders { length recorders.items ≡ length crew.items }
@@ -183,7 +185,7 @@ fn run_crew<S: Semiring + Send + Sync, R: Threads + Wait + Sync, G: Gate<S>, T: 
             ensures told { IfOk result (λ done. HaveTold T.tells crew.items recorders.items done.1.items) }
             ensures fault { IfErr result (IsFaultIn S.arithmetic crew.items) }
         {
-            let (threads, missing) = start_all(scope, rt, crew, recorders, threads, gate);
+            let (threads, missing) = start_all(scope, rt, crew, recorders, threads, observer);
             // Even if one is missing, so that no thread outlives the call.
             let joined = join_all(rt, threads, members, told);
             match (missing, joined) {

@@ -1,4 +1,5 @@
-//! Blocks in another shape: transposed, cut, or placed in a larger one; and a list as a block of one column.
+//! Blocks in another shape: transposed, cut, or placed in a larger one; a list as a block of one column; and the sums of rows,
+//! of columns and of all entries (`sums`).
 //!
 //! No value changes: each entry moves to another place or is left out. Cutting and placing keep the order of the entries,
 //! by column and then by row, so one walk over the columns does both (`parts`): it takes the entries in some rows and

@@ -5,6 +5,8 @@
 //! the ring's protocol ([`Numbered`]) numbers the letters, and knows nothing of their content. `settle` compares both
 //! ends: what was taken is a prefix of what was posted.
 //!
+//! A thread that waits at an end polls, then sleeps until the bell rings that both ends share (`bells`).
+//!
 //! [`open_lanes`] makes the lanes from each rank to each other, and takes all memory. No later call takes any.
 #![tactic(auto)]
 

@@ -12,8 +12,8 @@ pub mod VertexColumns
 -- round. TurnedProducts: a round is the product of the turned matrix. TakenNumbers, LowerEntries, NumberColumns,
 -- FallenNumbers: the numbers known so far, those that fall, and their column. RelaxedEdges: the edges from one vertex.
 -- TurnedUnits: levels on the transposed matrix. LevelRounds: levels up to a number of rounds. SearchRounds: the
--- vertices that a round of a breadth-first search reaches. LevelNumbers: numbers that are
--- levels. LeastNearer: parents are nearer vertices. ParentFacts: who has a parent.
+-- vertices that a round of a breadth-first search reaches. UpRounds: a round from the bottom up, column by column.
+-- LevelNumbers: numbers that are levels. LeastNearer: parents are nearer vertices. ParentFacts: who has a parent.
 -- ColumnsBesides: columns of distances, side by side. NearestGiven: what is nearest from initial values. GivenEntries: these
 -- are taken one after another.
 pub mod ShortWalks
@@ -27,6 +27,7 @@ pub mod RelaxedEdges
 pub mod TurnedUnits
 pub mod LevelRounds
 pub mod SearchRounds
+pub mod UpRounds
 pub mod LevelNumbers
 pub mod LeastNearer
 pub mod ParentFacts

@@ -120,20 +120,6 @@ round_more a k few d q e r is ws f s more next = record {
   next = All-append (IsNext a k d) is.vertices ws is.next next;
 }
 
--- what is near in the midst of a round was near before
-pub near_before : (a : Sparse) (k : ℕ) (d : ℕ → ℕ) (q : List ℕ) (e : ℕ → ℕ) (r : List ℕ) → IsRoundFrom a k d q e r → (u : ℕ) → e u ≤ k → d u ≤ k
-near_before a k d q e r is u l = ⊎_elim
-    (λ (same : e u ≡ d u). omega (arith, same, l))
-    (λ (new : (d u ≡ infinite) × (e u ≡ k + 1) × Contains is.vertices u × IsListedFrom (length q) r u). absurd (omega (arith, new.1, l)))
-    (is.claimed.held u)
-
--- what is far in the midst of a round was far before
-pub far_before : (a : Sparse) (k : ℕ) → k + 1 < infinite → (d : ℕ → ℕ) (q : List ℕ) (e : ℕ → ℕ) (r : List ℕ) → IsRoundFrom a k d q e r → (u : ℕ) → k < e u → k < d u
-far_before a k few d q e r is u l = ⊎_elim
-    (λ (same : e u ≡ d u). omega (arith, same, l))
-    (λ (new : (d u ≡ infinite) × (e u ≡ k + 1) × Contains is.vertices u × IsListedFrom (length q) r u). omega (arith, new.0, few))
-    (is.claimed.held u)
-
 module _ (a : Sparse) (source k : ℕ) (known : Numbers) (q : List ℕ) (start : ℕ) (is : IsReaching a source k known q start) where
   abbrev d : ℕ → ℕ
   d = number_at known
@@ -227,8 +213,3 @@ reaching_begun a source known q numbers here there queue = record {
       (λ (n : v ≡ source → ⊥). absurd (omega (arith, zero_here, there v n)))
       (cases_eq v source);
 }
-
--- the number of a column that has entries
-pub column_inside : (a : Sparse) → IsMatrix or_and a → (n : ℕ) → n < length (columns_with_entries a.entries) → get_or (columns_with_entries a.entries) n 0 < a.shape.cols
-column_inside a is n l =
-    All-get_or (λ c. c < a.shape.cols) (columns_with_entries a.entries) n 0 l (columns_inside or_and a (columns_with_entries a.entries) is refl)

@@ -4,18 +4,18 @@
 //! down it follows the edges from the vertices that the round before reached. From the bottom up it looks at each vertex
 //! without a number: column v of the block lists where the edges to v come from, and it is read up to the first row that a
 //! round before reached. Each round takes the direction in which it has less to read: up where many vertices were just
-//! reached, so that such a row comes soon, and otherwise down. A queue has the vertices in the order in which they were
-//! reached.
+//! reached, so that such a row comes soon, and otherwise down. A round down needs the vertices that the last round reached,
+//! in a queue, to which it appends those that it reaches. Rounds up need the numbers alone: after the last of them the queue
+//! is made from the numbers.
 //!
 //! This is the search of Beamer, Asanović and Patterson, Direction-Optimizing Breadth-First Search (SC 2012).
-ghost use Rattle.std.specs.Prelude.{◌≡◌, ◌≢◌, ℕ, ◌+◌, ◌<◌, ◌≤◌, List, [], ◌∷◌, length, slice_index, take, All, None, IfOk, IfSome, OnOk};
+ghost use Rattle.std.specs.Prelude.{◌≡◌, ℕ, ◌+◌, ◌<◌, ◌≤◌, [], ◌∷◌, length, slice_index, take, All, Contains, IfNone, IfOk, IfSome, OnOk};
 ghost use Rattle.cb_semirings.specs.Tables.{or_and};
 ghost use Rattle.cb_matrix.specs.Sparse.{Sparse};
 ghost use Rattle.cb_matrix.specs.Operations.{transposed};
-ghost use Rattle.cb_dcsc.specs.Columns.{columns_with_entries};
 ghost use Rattle.cb_searches.specs.Walks.{infinite};
-ghost use Rattle.cb_searches.specs.Numbers.{number_at, AreNumbers};
-ghost use Rattle.cb_searches.specs.BreadthFirst.{AreLevelNumbers, HasTurned, HaveClaimed, IsNext, IsReaching, IsRoundFrom};
+ghost use Rattle.cb_searches.specs.Numbers.{listed_at, number_at, AreNumbers};
+ghost use Rattle.cb_searches.specs.BreadthFirst.{AreLevelNumbers, AreLevelsWithin, HasTurned, HaveClaimed, IsReaching};
 
 use crate::dijkstra::edges_of;
 use crate::numbers::Numbers;
@@ -53,51 +53,47 @@ pub(crate) fn level_numbers(
 {
     let shape = graph.shape();
     prove_eq!(shape.rows(), shape.cols());
-    let mut known = Numbers::begin(alloc, shape.rows(), graph.len(), source)?;
-    let mut queue = Vec::with_capacity(alloc, graph.columns())?;
-    queue.push(source)?;
-    let Some((rounds, start)) = rounds_up(&mut known, &mut queue, graph)? else {
-        return Ok(known);
+    let known = Numbers::begin(alloc, shape.rows(), graph.len(), source)?;
+    let Numbers::Dense(mut list) = known else {
+        let turned = cb_reshape::transpose(alloc, graph)?;
+        return breadth_first(alloc, graph, &turned, source);
+    };
+    let Some(rounds) = rounds_up(&mut list, graph) else {
+        return Ok(Numbers::Dense(list));
     };
     let turned = cb_reshape::transpose(alloc, graph)?;
-    make_rounds(&mut known, &mut queue, graph, &turned, rounds, start)?;
+    let mut queue = Vec::with_capacity(alloc, graph.columns())?;
+    queue_reached(&mut queue, &list, shape.rows(), rounds)?;
+    let mut known = Numbers::Dense(list);
+    make_rounds(&mut known, &mut queue, graph, &turned, rounds, 0)?;
     Ok(known)
 }
 
-/// Makes rounds up until one reaches no vertex, or until they are given up. Then it returns how many are made, and where
-/// the vertices that the last one reached begin in the queue.
-fn rounds_up(
-    known: &mut Numbers,
-    queue: &mut Vec<u32>,
-    graph: &Block<OrAnd>,
-) -> Result<Option<(u32, usize)>, AllocError>
+/// Makes rounds up until one reaches no vertex, or until they are given up. Then it returns how many are made.
+fn rounds_up(list: &mut [u64], graph: &Block<OrAnd>) -> Option<u32>
     requires square { graph.now.shape.rows ≡ graph.now.shape.cols }
-    requires reaching { (source : ℕ) × IsReaching graph.now source 0 known.old queue.old.items 0 }
-    ensures numbers { OnOk result (AreNumbers graph.now.shape.rows known.new) }
-    ensures ended { IfOk result (λ found. found ≡ None → (source : ℕ) → IsReaching graph.now source 0 known.old queue.old.items 0 → AreLevelNumbers graph.now source (number_at known.new)) }
-    ensures left { IfOk result (λ found. IfSome found (λ at. (source : ℕ) → IsReaching graph.now source 0 known.old queue.old.items 0 → IsReaching graph.now source at.0 known.new queue.new.items at.1)) }
+    requires length { length list.old ≡ graph.now.shape.rows }
+    ensures length { length list.new ≡ length list.old }
+    ensures ended { IfNone result ((source : ℕ) → AreLevelsWithin graph.now source 0 (listed_at list.old) → AreLevelNumbers graph.now source (listed_at list.new)) }
+    ensures left { IfSome result (λ k. (source : ℕ) → AreLevelsWithin graph.now source 0 (listed_at list.old) → AreLevelsWithin graph.now source k (listed_at list.new)) }
 {
     let shape = graph.shape();
-    if !known.is_list() {
-        return Ok(Some((0, 0)));
-    }
     let mut looks_left = graph.len().saturating_mul(LOOKS_PER_ENTRY);
-    let mut start = 0;
+    let mut reached_before = 1;
     for rounds in 0..shape.rows() {
-        let end = queue.len();
-        if start >= end {
-            return Ok(None);
+        let (reached, looks) = up(list, graph, rounds);
+        if reached == 0 {
+            return None;
         }
-        let looks = up(known, queue, graph, rounds)?;
-        if queue.len().saturating_sub(end) / GROWTH < end.saturating_sub(start) {
+        if reached / GROWTH < reached_before {
             if looks_left <= looks {
-                return Ok(Some((rounds + 1, end)));
+                return Some(rounds + 1);
             }
             looks_left -= looks;
         }
-        start = end;
+        reached_before = reached;
     }
-    Ok(Some((shape.rows(), start)))
+    Some(shape.rows())
 }
 
 /// The levels of the vertices from a source, in the graph of a square block, given its transpose too.
@@ -141,19 +137,15 @@ fn make_rounds(
     ensures levels { OnOk result ((source : ℕ) → source < graph.now.shape.rows → IsReaching graph.now source first known.old queue.old.items start → AreLevelNumbers graph.now source (number_at known.new)) }
 {
     let shape = graph.shape();
-    let mut start = start;
-    for rounds in first..shape.rows() {
-        let end = queue.len();
-        if start >= end {
-            return Ok(());
-        }
-        make_round(known, queue, start, graph, turned, rounds)?;
-        start = end;
+    let (mut rounds, mut start) = (first, start);
+    while rounds < shape.rows() && start < queue.len() {
+        (rounds, start) = make_round(known, queue, start, graph, turned, rounds)?;
     }
     Ok(())
 }
 
-/// Makes one round after so many, in the direction that pays.
+/// Makes a round down after so many, or rounds up as long as it pays. Returns how many are made then, and from where on in
+/// the queue the vertices are that the last one reached.
 fn make_round(
     known: &mut Numbers,
     queue: &mut Vec<u32>,
@@ -161,17 +153,85 @@ fn make_round(
     graph: &Block<OrAnd>,
     turned: &Block<OrAnd>,
     rounds: u32,
-) -> Result<(), AllocError>
+) -> Result<(u32, usize), AllocError>
     requires turned { HasTurned turned.now graph.now }
     requires start { start ≤ length queue.old.items }
+    requires rounds { rounds < graph.now.shape.rows }
     requires reaching { (source : ℕ) × IsReaching graph.now source rounds known.old queue.old.items start }
-    ensures { OnOk result ((source : ℕ) → IsReaching graph.now source rounds known.old queue.old.items start → IsReaching graph.now source (rounds + 1) known.new queue.new.items (length queue.old.items)) }
+    ensures later { IfOk result (λ at. rounds < at.0) }
+    ensures reaching { IfOk result (λ at. (source : ℕ) → IsReaching graph.now source rounds known.old queue.old.items start → IsReaching graph.now source at.0 known.new queue.new.items at.1) }
 {
-    if known.is_list() && pays_up(graph, turned, &queue[start..]) {
-        up(known, queue, graph, rounds)?;
-        return Ok(());
+    // For the proof alone: the contract of this call bounds the number of rounds.
+    let _rows = graph.shape().rows();
+    if let Numbers::Dense(list) = known {
+        if pays_up(graph, turned, &queue[start..]) {
+            let made = up_while_many(list, queue, graph, rounds)?;
+            return Ok((made, 0));
+        }
     }
+    let end = queue.len();
     down(known, queue, start, turned, rounds)?;
+    Ok((rounds + 1, end))
+}
+
+/// Makes rounds up, after so many, until one reaches few vertices, which are then the queue. Returns how many are made then.
+fn up_while_many(
+    list: &mut [u64],
+    queue: &mut Vec<u32>,
+    graph: &Block<OrAnd>,
+    rounds: u32,
+) -> Result<u32, AllocError>
+    requires square { graph.now.shape.rows ≡ graph.now.shape.cols }
+    requires length { length list.old ≡ graph.now.shape.rows }
+    requires rounds { rounds < graph.now.shape.rows }
+    ensures length { length list.new ≡ length list.old }
+    ensures later { IfOk result (λ made. rounds < made) }
+    ensures rounds { IfOk result (λ made. (source : ℕ) → AreLevelsWithin graph.now source rounds (listed_at list.old) → AreLevelsWithin graph.now source made (listed_at list.new)) }
+    ensures near { IfOk result (λ made. All (λ v. listed_at list.new v ≡ made) queue.new.items) }
+    ensures all { IfOk result (λ made. (v : ℕ) → listed_at list.new v ≡ made → Contains queue.new.items v) }
+{
+    let made = rounds_while_many(list, graph, rounds);
+    queue_reached(queue, list, graph.shape().rows(), made)?;
+    Ok(made)
+}
+
+/// Makes rounds up, after so many, until one reaches few vertices. Returns how many are made then.
+fn rounds_while_many(list: &mut [u64], graph: &Block<OrAnd>, rounds: u32) -> u32
+    requires square { graph.now.shape.rows ≡ graph.now.shape.cols }
+    requires length { length list.old ≡ graph.now.shape.rows }
+    requires rounds { rounds < graph.now.shape.rows }
+    ensures length { length list.new ≡ length list.old }
+    ensures later { rounds < result }
+    ensures rounds { (source : ℕ) → AreLevelsWithin graph.now source rounds (listed_at list.old) → AreLevelsWithin graph.now source result (listed_at list.new) }
+{
+    let shape = graph.shape();
+    let few = graph.columns() / COLUMNS_PER_REACHED;
+    for made in rounds..shape.rows() {
+        let (reached, _looks) = up(list, graph, made);
+        if reached <= few {
+            return made + 1;
+        }
+    }
+    shape.rows()
+}
+
+/// Makes the vertices that have this number the queue. Costs a few instructions for each place of the list.
+fn queue_reached(
+    queue: &mut Vec<u32>,
+    list: &[u64],
+    rows: u32,
+    number: u32,
+) -> Result<(), AllocError>
+    requires { length list.now ≡ rows }
+    ensures near { OnOk result (All (λ v. listed_at list.now v ≡ number) queue.new.items) }
+    ensures all { OnOk result ((v : ℕ) → listed_at list.now v ≡ number → Contains queue.new.items v) }
+{
+    queue.clear();
+    for vertex in 0..rows {
+        if list[vertex as usize] == u64::from(number) {
+            queue.push(vertex)?;
+        }
+    }
     Ok(())
 }
 
@@ -248,68 +308,41 @@ fn claim(
     Ok(())
 }
 
-/// A round from the bottom up. Returns at how many numbers it looks.
-pub(crate) fn up(
-    known: &mut Numbers,
-    queue: &mut Vec<u32>,
-    graph: &Block<OrAnd>,
-    rounds: u32,
-) -> Result<usize, AllocError>
+/// A round from the bottom up, after so many. Returns how many vertices it reaches, and at how many numbers it looks.
+fn up(list: &mut [u64], graph: &Block<OrAnd>, rounds: u32) -> (usize, usize)
     requires square { graph.now.shape.rows ≡ graph.now.shape.cols }
-    requires reaching { (source : ℕ) × (start : ℕ) × IsReaching graph.now source rounds known.old queue.old.items start }
-    ensures { OnOk result ((source start : ℕ) → IsReaching graph.now source rounds known.old queue.old.items start → IsReaching graph.now source (rounds + 1) known.new queue.new.items (length queue.old.items)) }
+    requires length { length list.old ≡ graph.now.shape.rows }
+    ensures length { length list.new ≡ length list.old }
+    ensures none { result.0 ≡ 0 → list.new ≡ list.old }
+    ensures round { (source : ℕ) → AreLevelsWithin graph.now source rounds (listed_at list.old) → AreLevelsWithin graph.now source (rounds + 1) (listed_at list.new) }
 {
     let shape = graph.shape();
     prove_eq!(shape.rows(), shape.cols());
     let columns = graph.column_numbers();
-    let mut looks = columns.len();
+    let (mut reached, mut looks) = (0, columns.len());
     for n in 0..columns.len() {
-        let more = look(known, queue, graph, n, rounds)?;
-        looks = looks.saturating_add(more);
+        let vertex = columns[n];
+        if list[vertex as usize] == u64::MAX {
+            let (rows, _ones) = graph.nth_column(n);
+            let place = first_within(list, rows, rounds);
+            looks = looks.saturating_add(place);
+            if place < rows.len() {
+                list[vertex as usize] = u64::from(rounds) + 1;
+                reached += 1;
+            }
+        }
     }
-    Ok(looks)
-}
-
-/// Looks for an edge to the vertex of the nth column that has entries, if it has no number, from one that has. Returns at
-/// how many numbers it looks in vain.
-#[inline(always)]
-fn look(
-    known: &mut Numbers,
-    queue: &mut Vec<u32>,
-    graph: &Block<OrAnd>,
-    n: usize,
-    rounds: u32,
-) -> Result<usize, AllocError>
-    requires square { graph.now.shape.rows ≡ graph.now.shape.cols }
-    requires place { n < length (columns_with_entries graph.now.entries) }
-    requires numbers { AreNumbers graph.now.shape.rows known.old }
-    ensures numbers { OnOk result (AreNumbers graph.now.shape.rows known.new) }
-    ensures keeps { OnOk result ((v : ℕ) → number_at known.old v ≢ infinite → number_at known.new v ≢ infinite) }
-    ensures round { OnOk result ((old : ℕ → ℕ) (reached : List ℕ) → IsRoundFrom graph.now rounds old reached (number_at known.old) queue.old.items → IsRoundFrom graph.now rounds old reached (number_at known.new) queue.new.items) }
-    ensures looked { OnOk result ((old : ℕ → ℕ) (reached : List ℕ) → IsRoundFrom graph.now rounds old reached (number_at known.old) queue.old.items → let v = slice_index (columns_with_entries graph.now.entries) n in IsNext graph.now rounds old v → number_at known.new v ≢ infinite) }
-{
-    let shape = graph.shape();
-    prove_eq!(shape.rows(), shape.cols());
-    let vertex = graph.column_number(n);
-    if known.number_of(vertex) != u64::MAX {
-        return Ok(0);
-    }
-    let (rows, _ones) = graph.nth_column(n);
-    let place = first_within(known, rows, rounds);
-    if place >= rows.len() {
-        return Ok(place);
-    }
-    claim(known, queue, vertex, u64::from(rounds) + 1)?;
-    Ok(place)
+    (reached, looks)
 }
 
 /// The index of the first vertex whose number is at most this, or the length.
-fn first_within(known: &Numbers, vertices: &[u32], most: u32) -> usize
-    ensures found { result < length vertices.now → number_at known.now (slice_index vertices.now result) ≤ most }
-    ensures none { All (λ v. most < number_at known.now v) (take result vertices.now) }
+fn first_within(list: &[u64], vertices: &[u32], most: u32) -> usize
+    requires { All (λ v. v < length list.now) vertices.now }
+    ensures found { result < length vertices.now → listed_at list.now (slice_index vertices.now result) ≤ most }
+    ensures none { All (λ v. most < listed_at list.now v) (take result vertices.now) }
 {
     for n in 0..vertices.len() {
-        if known.number_of(vertices[n]) <= u64::from(most) {
+        if list[vertices[n] as usize] <= u64::from(most) {
             return n;
         }
     }

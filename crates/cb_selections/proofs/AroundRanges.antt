@@ -8,7 +8,7 @@ use Rattle.cb_semirings.specs.Arithmetic.{Arithmetic, IsValue}
 use Rattle.cb_dcsc.specs.Columns.{row_value}
 use Rattle.cb_dcsc.proofs.Lookup.{row_value-absent}
 use Rattle.cb_product.specs.SparseColumn.{IsSparseColumn}
-use Rattle.cb_selections.specs.Regions.{where_true}
+use Rattle.cb_operations.specs.Regions.{where_true}
 use Rattle.cb_selections.proofs.RegionRanges.{past_first}
 
 -- the items before one place and from another on

@@ -9,8 +9,9 @@ use Rattle.cb_matrix.proofs.Made.{same_matrix_of, at-matrix_of}
 use Rattle.cb_matrix.proofs.Totals.{add_zero, value_at-value}
 use Rattle.cb_product.specs.InColumns.{AreInColumns}
 use Rattle.cb_product.proofs.ColumnsMade.{absent_value}
-use Rattle.cb_selections.specs.Regions.{where_true}
-use Rattle.cb_selections.specs.Selections.{assigned, outside}
+use Rattle.cb_operations.specs.Regions.{where_true}
+use Rattle.cb_operations.specs.Selected.{assigned}
+use Rattle.cb_selections.specs.KernelSteps.{outside}
 use Rattle.cb_selections.proofs.DiagonalPlaces.{zero_where}
 
 -- of two values one is left, and zero is added to it

@@ -13,7 +13,7 @@ use Rattle.cb_product.specs.SparseColumn.{IsSparseColumn}
 use Rattle.cb_product.proofs.OwnColumn.{own_sparse}
 use Rattle.cb_product.proofs.ProductColumns.{own_column}
 use Rattle.cb_product.proofs.StoredColumn.{AddsColumn, column_adds}
-use Rattle.cb_selections.specs.Regions.{where_true}
+use Rattle.cb_operations.specs.Regions.{where_true}
 
 -- a place without a value has none in a region either
 pub zero_where : (z : ℕ) (b : Bool) → where_true z b z ≡ z

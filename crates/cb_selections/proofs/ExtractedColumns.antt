@@ -6,7 +6,7 @@ use Rattle.cb_semirings.specs.Arithmetic.{Arithmetic}
 use Rattle.cb_matrix.specs.Sparse.{Sparse, at}
 use Rattle.cb_matrix.specs.Operations.{transposed}
 use Rattle.cb_matrix.proofs.Made.{at-matrix_of, same_matrix_of}
-use Rattle.cb_selections.specs.Selections.{extracted, rows_by, columns_by}
+use Rattle.cb_selections.specs.Extracted.{extracted, rows_by, columns_by}
 
 -- the rows of the columns
 pub extracted_is : (s : Arithmetic) (a : Sparse) (rows cols : List ℕ) → All (λ i. i < a.shape.rows) rows → rows_by s rows (columns_by s cols a) ≡ extracted s rows cols a

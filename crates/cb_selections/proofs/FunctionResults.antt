@@ -11,12 +11,14 @@ use Rattle.cb_matrix.proofs.Equal.{matrix_is}
 use Rattle.cb_matrix.proofs.Places.{is_at-parts}
 use Rattle.cb_dcsc.specs.Columns.{revalued, rows_of, values_of}
 use Rattle.cb_dcsc.proofs.Revalued.{revalued_matrix}
-use Rattle.cb_selections.specs.declared.functions.Function.{Function}
-use Rattle.cb_selections.specs.declared.functions.Function.TheVariants.{Constant, Sum, LeftProduct, RightProduct, Row, Column}
-use Rattle.cb_selections.specs.Functions.{operand_of, function_value, depends_on_column}
-use Rattle.cb_selections.specs.FunctionLaws.{function_value-value}
-use Rattle.cb_elementwise.specs.Replaced.{of_stored}
-use Rattle.cb_selections.specs.Selections.{applied, results_of}
+use Rattle.cb_operations.specs.declared.functions.Function.{Function}
+use Rattle.cb_operations.specs.declared.functions.Function.TheVariants.{Constant, Sum, LeftProduct, RightProduct, Row, Column}
+use Rattle.cb_operations.specs.Functions.{operand_of, function_value}
+use Rattle.cb_selections.specs.KernelSteps.{depends_on_column}
+use Rattle.cb_elementwise.specs.RuleLaws.{function_value-value}
+use Rattle.cb_operations.specs.Selected.{of_stored}
+use Rattle.cb_operations.specs.Selected.{applied}
+use Rattle.cb_selections.specs.KernelSteps.{results_of}
 use Rattle.cb_elementwise.proofs.ReplacedColumn.{of_stored-some, of_stored-none}
 
 -- a function that doesn't depend on the column has the same operand in each

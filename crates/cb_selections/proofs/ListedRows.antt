@@ -18,7 +18,7 @@ use Rattle.cb_product.proofs.OwnColumn.{own_sparse}
 use Rattle.cb_product.proofs.ProductColumns.{own_column}
 use Rattle.cb_product.proofs.RowValues.{absent_above, row_value-push, row_value-none}
 use Rattle.cb_selections.specs.ListedRows.{ArePlaces, IsListed}
-use Rattle.cb_selections.specs.Selections.{rows_by}
+use Rattle.cb_selections.specs.Extracted.{rows_by}
 
 -- ---- a table of places
 -- the table has the places of the first n listed numbers

@@ -14,8 +14,8 @@ use Rattle.cb_dcsc.proofs.Lookup.{row_value-absent}
 use Rattle.cb_product.specs.InColumns.{AreInColumns}
 use Rattle.cb_product.specs.SparseColumn.{IsSparseColumn}
 use Rattle.cb_product.proofs.ColumnsMade.{absent_value}
-use Rattle.cb_selections.specs.declared.regions.Region.{Region}
-use Rattle.cb_selections.specs.Regions.{is_in, where_true}
+use Rattle.cb_operations.specs.declared.regions.Region.{Region}
+use Rattle.cb_operations.specs.Regions.{is_in, where_true}
 use Rattle.cb_selections.proofs.DiagonalPlaces.{zero_where}
 
 -- ---- where a row would stand

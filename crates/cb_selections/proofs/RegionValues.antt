@@ -5,10 +5,10 @@ use Rattle.std.proofs.lemmas.Bool.{cases_eq}
 use Rattle.cb_semirings.specs.Arithmetic.{Arithmetic}
 use Rattle.cb_matrix.specs.Sparse.{Sparse, at}
 use Rattle.cb_matrix.proofs.Made.{same_matrix_of}
-use Rattle.cb_selections.specs.declared.regions.Region.{Region}
-use Rattle.cb_selections.specs.Regions.{is_in, where_true}
-use Rattle.cb_elementwise.specs.Replaced.{of_stored, replaced}
-use Rattle.cb_selections.specs.Selections.{selected}
+use Rattle.cb_operations.specs.declared.regions.Region.{Region}
+use Rattle.cb_operations.specs.Regions.{is_in, where_true}
+use Rattle.cb_operations.specs.Selected.{of_stored, replaced}
+use Rattle.cb_operations.specs.Selected.{selected}
 use Rattle.cb_selections.proofs.DiagonalPlaces.{zero_where}
 use Rattle.cb_elementwise.proofs.ReplacedColumn.{of_stored-some, of_stored-none}
 

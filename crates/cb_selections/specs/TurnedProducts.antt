@@ -1,5 +1,5 @@
--- Products of matrices that may be transposed first, and powers.
-use Rattle.std.specs.Prelude.{ℕ, zero, suc, ◌-◌, Bool, cond}
+-- Products of matrices that may be transposed first.
+use Rattle.std.specs.Prelude.{Bool, cond}
 use Rattle.cb_semirings.specs.Arithmetic.{Arithmetic}
 use Rattle.cb_matrix.specs.Sparse.{Sparse, Extent}
 use Rattle.cb_matrix.specs.Values.{product}
@@ -15,12 +15,3 @@ turned_shape turn d = cond turn (record { rows = d.cols; cols = d.rows }) d
 -- the product of two matrices, of which each may be transposed first
 abbrev pub turned_product : Arithmetic → Bool → Bool → Sparse → Sparse → Sparse
 turned_product s left right a b = product s (turned_if s left a) (turned_if s right b)
-
--- a matrix, multiplied n more times by itself from the right
-unfoldable pub times_itself : Arithmetic → Sparse → ℕ → Sparse
-times_itself s a zero = a
-times_itself s a (suc n) = product s (times_itself s a n) a
-
--- the power of a matrix with n factors, 1 or more: the product of n - 1 factors times the last
-abbrev pub power : Arithmetic → Sparse → ℕ → Sparse
-power s a n = times_itself s a (n - 1)

@@ -3,7 +3,8 @@ ghost use Rattle.std.specs.Prelude.{◌≡◌, ℕ, ◌<◌, ◌≤◌, ◌+◌,
 ghost use Rattle.cb_matrix.specs.Operations.{is_covered};
 ghost use Rattle.cb_matrix.specs.Sparse.{IsMatrix};
 ghost use Rattle.cb_matrix.specs.Values.{empty_matrix};
-ghost use Rattle.cb_selections.specs.Selections.{assigned, outside};
+ghost use Rattle.cb_operations.specs.Selected.{assigned};
+ghost use Rattle.cb_selections.specs.KernelSteps.{outside};
 
 use cb_dcsc::Block;
 use cb_elementwise::add;

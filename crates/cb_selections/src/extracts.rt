@@ -5,7 +5,7 @@
 ghost use Rattle.std.specs.Prelude.{◌≡◌, ◌≢◌, ℕ, ◌<◌, ◌≤◌, IsTrue, length, slice_index, All, AllPairs, IfOk, IfSome, IfNone, OnOk};
 ghost use Rattle.cb_matrix.specs.Sparse.{IsMatrix};
 ghost use Rattle.cb_matrix.specs.Values.{empty_matrix};
-ghost use Rattle.cb_selections.specs.Selections.{extracted, rows_by, columns_by};
+ghost use Rattle.cb_selections.specs.Extracted.{extracted, rows_by, columns_by};
 ghost use Rattle.cb_selections.specs.ListedRows.{ArePlaces, IsListed};
 
 use crate::shape_of;

@@ -1,11 +1,11 @@
-//! Further operations of GraphBLAS: entries selected by their place, values replaced, the diagonal, rows and columns
-//! extracted by their numbers, a part assigned, the Kronecker product, a block updated under a mask, products of transposes,
-//! and powers.
+//! Selections of GraphBLAS from blocks: entries by their place, values replaced, the diagonal, a part assigned, the Kronecker
+//! product, powers and complemented masks. [`compute`] makes any [`Selection`](cb_operations::Selection). Beside them rows and
+//! columns extracted by their numbers, a block updated under a mask, and products of transposes.
 //!
 //! Each walks the columns that have entries, in order, so its cost is proportional to the entries, whatever the
-//! dimensions. A rule (`value_rules`) gives an entry its new value: it is a region of places (`regions`), or a function of the
-//! value and the place (`functions`). One walk (`replaced` of `cb_elementwise`) applies any rule; where all entries keep their places, or
-//! those of a column that stay follow one another, lists are copied whole.
+//! dimensions. A rule gives an entry its new value: a region of places, or a function of the value and the place. One walk
+//! (`replaced` of `cb_elementwise`) applies any rule; where all entries keep their places, or those of a column that stay follow
+//! one another (`functions`, `regions`), lists are copied whole.
 //!
 //! The operations are `GrB_select`, `GrB_apply`, `GrB_Matrix_diag`, `GrB_extract`, `GrB_assign` and `GrB_kronecker` of The
 //! GraphBLAS C API Specification, version 2.1, section 4.3, and the write-back under a mask that ends each of them.
@@ -15,9 +15,9 @@ ghost use Rattle.std.specs.Prelude.{◌≡◌, ◌≢◌, ◌↔◌, ℕ, ◌<�
 ghost use Rattle.cb_semirings.specs.Arithmetic.{IsValue};
 ghost use Rattle.cb_matrix.specs.Sparse.{IsMatrix};
 ghost use Rattle.cb_matrix.specs.Values.{empty_matrix};
-ghost use Rattle.cb_selections.specs.Functions.{operand_of, depends_on_column};
-ghost use Rattle.cb_selections.specs.Regions.{is_one_range};
-ghost use Rattle.cb_selections.specs.Selections.{selected, applied, results_of};
+ghost use Rattle.cb_operations.specs.Functions.{operand_of};
+ghost use Rattle.cb_operations.specs.Selected.{selected, applied};
+ghost use Rattle.cb_selections.specs.KernelSteps.{depends_on_column, is_one_range, results_of};
 
 mod assignments;
 mod diagonals;
@@ -26,21 +26,23 @@ mod functions;
 mod kronecker_products;
 mod powers;
 mod regions;
+mod selections;
 mod turned_products;
 mod updates;
-mod value_rules;
 
+use crate::functions::{depends_on_column, gives_zeros, replace_each};
+use crate::regions::{is_one_range, range};
 pub use assignments::assign;
 use cb_dcsc::Block;
 use cb_elementwise::replaced;
 use cb_matrix::{LIMIT, Shape};
+use cb_operations::{Function, Region};
 use cb_semirings::Semiring;
 pub use diagonals::{diagonal, diagonal_matrix};
 pub use extracts::{extract, extract_columns, extract_rows};
-pub use functions::Function;
 pub use kronecker_products::kronecker;
 pub use powers::power;
-pub use regions::{Diagonal, Region};
+pub use selections::{SelectionFault, compute};
 use std::alloc::{AllocError, Global};
 pub use turned_products::multiply_turned;
 pub use updates::{WriteBack, update};
@@ -56,7 +58,7 @@ pub fn select<S: Semiring>(
 ) -> Result<Block<S>, AllocError>
     ensures { IfOk result (λ kept. kept ≡ selected S.arithmetic region block.now) }
 {
-    if !region.is_one_range() {
+    if !is_one_range(region) {
         return replaced(alloc, block, &region, 0);
     }
     let mut kept = Block::empty(alloc, block.shape());
@@ -79,7 +81,7 @@ fn push_ranges<S: Semiring>(
     let columns = block.column_numbers();
     for n in 0..columns.len() {
         let (rows, values) = block.nth_column(n);
-        let (start, end) = region.range(columns[n], rows);
+        let (start, end) = range(region, columns[n], rows);
         kept.push_column(columns[n], &rows[start..end], &values[start..end])?;
     }
     Ok(())
@@ -97,8 +99,8 @@ pub fn apply<S: Semiring>(
     requires { (i j : ℕ) → i < block.now.shape.rows → j < block.now.shape.cols → IsValue S.arithmetic (operand_of function i j) }
     ensures { IfOk result (λ made. made ≡ applied S.arithmetic function block.now) }
 {
-    let gives_zeros = function.gives_zeros::<S>(block.shape());
-    if !gives_zeros && !function.depends_on_column() {
+    let gives_zeros = gives_zeros::<S>(function, block.shape());
+    if !gives_zeros && !depends_on_column(function) {
         let values = results(alloc, block, function)?;
         if has_no_zero::<S>(&values) {
             return block.with_values(values);
@@ -119,7 +121,7 @@ fn results<S: Semiring>(
     ensures { IfOk result (λ values. values.items ≡ results_of S.arithmetic function block.now.entries) }
 {
     let mut values = Vec::from_slice(alloc, block.values())?;
-    function.replace_each::<S>(block.row_numbers(), &mut values);
+    replace_each::<S>(function, block.row_numbers(), &mut values);
     Ok(values)
 }
 

@@ -1,3 +1,2 @@
--- SerialFaults: why an operation on blocks fails. Lent: borrowed values.
+-- SerialFaults: why an operation on blocks fails.
 pub mod SerialFaults
-pub mod Lent

@@ -1,7 +1,7 @@
 //! Operations on blocks whose shapes may not agree.
 ghost use Rattle.std.specs.Prelude.{◌≡◌, length, IfOk, IfErr, IfSome, IfNone};
 ghost use Rattle.cb_operations.specs.OperationAnswers.{operand_count_of, Agree, answer_of, shapes_in};
-ghost use Rattle.cb_serial.specs.Lent.{lent_in};
+ghost use Rattle.cb_operations.specs.Operands.{lent_in};
 ghost use Rattle.cb_serial.specs.SerialFaults.{IsFaultOf};
 
 use crate::compute;

@@ -7,7 +7,7 @@
 
 ghost use Rattle.std.specs.Prelude.{◌≡◌, [], ◌∷◌, length, IfOk};
 ghost use Rattle.cb_operations.specs.OperationAnswers.{operand_count_of, Agree, answer_of, shapes_in};
-ghost use Rattle.cb_serial.specs.Lent.{lent_in};
+ghost use Rattle.cb_operations.specs.Operands.{lent_in};
 
 mod checked;
 mod vector_products;

@@ -13,7 +13,7 @@ ghost use Rattle.cb_matrix.specs.Sparse.{IsMatrix};
 ghost use Rattle.cb_matrix.specs.Operations.{masked};
 ghost use Rattle.cb_matrix.specs.Values.{empty_matrix, product, product_shape};
 ghost use Rattle.cb_dcsc.specs.Columns.{columns_with_entries, with_entries};
-ghost use Rattle.cb_elementwise.specs.Complements.{excluded};
+ghost use Rattle.cb_operations.specs.Selected.{excluded};
 ghost use Rattle.cb_product.specs.ColumnStarts.{Tells};
 ghost use Rattle.cb_shares.specs.Shares.{panel, AreEnds, AreBefore, JoinsPanels};
 

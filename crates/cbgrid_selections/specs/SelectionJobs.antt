@@ -8,7 +8,7 @@ use Rattle.cb_command_line.specs.declared.jobs.Job.{Job}
 use Rattle.cb_command_line.specs.declared.tasks.SelectionTask.{SelectionTask}
 use Rattle.cb_command_line.specs.declared.tasks.Task.TheVariants as task_is
 use Rattle.cb_job_ends.specs.declared.faults.JobFault.{JobFault}
-use Rattle.cb_job_selections.specs.SelectionAnswers.{IsSelectionAnswer, IsSelectionFault}
+use Rattle.cb_job_selections.specs.SelectionTexts.{IsSelectionAnswer, IsSelectionFault}
 use Rattle.cb_job_runs.specs.Parts.{IsPartAnswer, IsPartFault}
 
 -- what the program can do: a selection over a semiring

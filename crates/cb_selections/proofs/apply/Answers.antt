@@ -4,7 +4,8 @@ use Rattle.std.proofs.lemmas.Result.{IfOk-weaker}
 use Rattle.cb_semirings.specs.Arithmetic.{IsValue}
 use Rattle.cb_matrix.specs.Sparse.{Sparse}
 use Rattle.cb_dcsc.specs.Columns.{revalued}
-use Rattle.cb_selections.specs.Selections.{applied, results_of}
+use Rattle.cb_operations.specs.Selected.{applied}
+use Rattle.cb_selections.specs.KernelSteps.{results_of}
 use Rattle.cb_selections.proofs.FunctionResults.{are_results, applied_is}
 use Rattle.cb_selections.proofs.apply.Goals as goal
 

@@ -8,7 +8,7 @@ use Rattle.cb_product.proofs.OwnColumn.{own_sparse}
 use Rattle.cb_product.proofs.ProductColumns.{own_column}
 use Rattle.cb_product.proofs.StoredColumn.{column_adds}
 use Rattle.cb_product.proofs.ColumnsMade.{walk_none, walk_more, walk_all, before_column}
-use Rattle.cb_selections.specs.Regions.{is_in, where_true}
+use Rattle.cb_operations.specs.Regions.{is_in, where_true}
 use Rattle.cb_elementwise.proofs.ReplacedColumns.{nth_are}
 use Rattle.cb_selections.proofs.RegionRanges.{value_for, range_absent, range_value, range_column}
 use Rattle.cb_selections.proofs.push_ranges.Goals as goal

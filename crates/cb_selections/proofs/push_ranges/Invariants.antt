@@ -1,7 +1,7 @@
 use Rattle.std.proofs.Common.{get_or}
 use Rattle.cb_matrix.specs.Sparse.{at}
 use Rattle.cb_product.proofs.ColumnsMade.{IsMadeTo}
-use Rattle.cb_selections.specs.Regions.{is_in, where_true}
+use Rattle.cb_operations.specs.Regions.{is_in, where_true}
 use Rattle.cb_selections.proofs.push_ranges.Given as goal
 
 abbrev pub invariant-loop-n : goal.invariant-loop-n

@@ -4,7 +4,7 @@ use Rattle.std.proofs.lemmas.List.{take_at, length-map}
 use Rattle.cb_semirings.specs.Arithmetic.{IsValue}
 use Rattle.cb_matrix.specs.declared.Entry.{Entry}
 use Rattle.cb_dcsc.proofs.Lookup.{all_values}
-use Rattle.cb_selections.specs.Functions.{operand_of, function_value}
+use Rattle.cb_operations.specs.Functions.{operand_of, function_value}
 use Rattle.cb_selections.proofs.FunctionResults.{results_are, are_operands}
 use Rattle.cb_selections.proofs.results.Goals as goal
 

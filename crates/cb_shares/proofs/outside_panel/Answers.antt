@@ -2,7 +2,7 @@ use Rattle.std.proofs.Common.{◌≡◌, ◌∙◌, sym, arith, ap, subst}
 use Rattle.std.specs.Prelude.{IfOk, slice_range}
 use Rattle.cb_matrix.specs.Sparse.{Sparse}
 use Rattle.cb_matrix.specs.Values.{product}
-use Rattle.cb_elementwise.specs.Complements.{excluded}
+use Rattle.cb_operations.specs.Selected.{excluded}
 use Rattle.cb_product.specs.InColumns.{only_columns}
 use Rattle.cb_shares.specs.Shares.{columns_from}
 use Rattle.cb_shares.proofs.ColumnValues.{only_excluded}

@@ -1,5 +1,5 @@
 use Rattle.std.proofs.Common.{sym, subst}
-use Rattle.cb_serial.specs.Lent.{lent_in}
+use Rattle.cb_operations.specs.Operands.{lent_in}
 use Rattle.cb_job_operations.specs.OperationTexts.{IsBlocksFault}
 use Rattle.cb_job_operations.proofs.OperationFaults.{blocks_fault}
 use Rattle.cb_job_operations.proofs.alone.compute_whole.Goals as goal

@@ -1,11 +1,11 @@
 use Rattle.std.proofs.Common.{◌≡◌, ◌≢◌, subst}
 use Rattle.std.proofs.lemmas.Result.{IfOk-weaker, IfErr-weaker}
-use Rattle.cb_selections.specs.Selections.{rows_by}
+use Rattle.cb_selections.specs.Extracted.{rows_by}
 use Rattle.cb_command_line.specs.declared.lists.Lists.TheVariants.{Rows}
 use Rattle.cb_job_selections.specs.Extracts.{IsExtractOf, IsExtractFault}
 use Rattle.cb_job_inputs.specs.Lists.{IsList, numbers_in}
 use Rattle.cb_job_selections.specs.Extracts.{IsListFault}
-use Rattle.cb_job_ends.specs.declared.faults.SelectionRefusal.TheVariants.{NoRow}
+use Rattle.cb_operations.specs.declared.refusals.SelectionRefusal.TheVariants.{NoRow}
 use Rattle.cb_job_ends.specs.declared.faults.JobFault.TheVariants.{Output}
 use Rattle.cb_job_selections.proofs.ListFaults.{of_rows}
 use Rattle.cb_job_selections.proofs.extract_texts.some_rows.Goals as goal

@@ -3,7 +3,7 @@ use Rattle.std.specs.Prelude.{All, map}
 use Rattle.std.specs.Borrow.{Bor}
 use Rattle.cb_operations.specs.OperationAnswers.{Agree, shapes_in}
 use Rattle.cb_kept.specs.declared.kept.Kept.{Kept}
-use Rattle.cb_serial.specs.Lent.{lent_in}
+use Rattle.cb_operations.specs.Operands.{lent_in}
 use Rattle.cb_kept.specs.Kept.{AreOver, semiring_of, semiring_in, matrix_in}
 use Rattle.cb_kept.proofs.KeptFirsts.{over_in, over_out, first_semiring, mixed_first, shapes_first}
 use Rattle.cb_kept.proofs.kept_checks.common_semiring.Goals as goal

@@ -1,4 +1,4 @@
-use Rattle.cb_serial.specs.Lent.{lent_in}
+use Rattle.cb_operations.specs.Operands.{lent_in}
 use Rattle.cb_kept.proofs.KeptFirsts.{no_kept_operation}
 use Rattle.cb_kept.proofs.kept_operations.operate.Goals as goal
 

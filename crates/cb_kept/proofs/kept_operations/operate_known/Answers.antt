@@ -1,5 +1,5 @@
 use Rattle.std.proofs.Common.{rules, subst}
-use Rattle.cb_serial.specs.Lent.{lent_in}
+use Rattle.cb_operations.specs.Operands.{lent_in}
 use Rattle.cb_kept.specs.Kept.{AreOver}
 use Rattle.cb_kept.proofs.KeptFirsts.{none_of_kept, made_kept}
 use Rattle.cb_kept.proofs.kept_operations.operate_known.Goals as goal

@@ -2,8 +2,8 @@ use Rattle.std.proofs.Common.{rules, ◌≡◌, length, map, sym, subst}
 use Rattle.std.proofs.lemmas.List.{length-map}
 use Rattle.std.proofs.lemmas.List.Elements.{length_all_zip}
 use Rattle.cb_rank_runs.specs.Crews.{Ran}
-use Rattle.cb_rank_threads.specs.Faults.{IsFirstGone}
-use Rattle.cb_rank_threads.proofs.ThreadJoins.{one_joined, all_joined, first_gone}
+use Rattle.cb_rank_runs.specs.NamedRanks.{IsFirstGone}
+use Rattle.cb_rank_runs.proofs.LeavingsSoFar.{one_joined, all_joined, first_gone}
 use Rattle.cb_rank_crews.specs.Backs.{was_given}
 use Rattle.cb_rank_crews.proofs.crew.gather.Goals as goal
 

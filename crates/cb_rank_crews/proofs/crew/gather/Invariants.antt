@@ -1,6 +1,6 @@
 use Rattle.std.proofs.Common.{◌≡◌, ◌+◌, ◌≤◌, length, vec_len, vec_capacity}
 use Rattle.cb_rank_runs.specs.Crews.{Ran}
-use Rattle.cb_rank_threads.proofs.ThreadJoins.{HasJoined}
+use Rattle.cb_rank_runs.proofs.LeavingsSoFar.{HasJoined}
 use Rattle.cb_rank_crews.specs.Backs.{was_given}
 use Rattle.cb_rank_crews.proofs.crew.gather.Given as goal
 

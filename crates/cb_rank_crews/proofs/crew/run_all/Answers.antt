@@ -1,6 +1,6 @@
 use Rattle.std.proofs.Common.{map}
 use Rattle.cb_rank_runs.proofs.OtherRanks.{err_is}
-use Rattle.cb_rank_threads.specs.Faults.{IsFirstGone}
+use Rattle.cb_rank_runs.specs.NamedRanks.{IsFirstGone}
 use Rattle.cb_rank_crews.specs.Backs.{IsNext, was_given}
 use Rattle.cb_rank_crews.specs.Crews.{given}
 use Rattle.cb_rank_crews.proofs.Backs.{gone_among, gone_is_next}

@@ -1,6 +1,6 @@
 use Rattle.std.proofs.Common.{rules, ◌≡◌, ◌+◌, ◌<◌, length, ap, ◌∙◌}
 use Rattle.cb_rank_runs.proofs.OtherRanks.{err_is}
-use Rattle.cb_rank_threads.specs.Faults.{IsFaultOf}
+use Rattle.cb_rank_runs.specs.NamedRanks.{IsFaultOf}
 use Rattle.cb_rank_crews.proofs.NewRings.{first_ring, other_rings, first_new}
 use Rattle.cb_rank_crews.proofs.hiring.hire.Goals as goal
 

@@ -1,9 +1,10 @@
 use Rattle.std.proofs.Common.{rules, ◌≡◌, length, map, sym, subst, vec_len, vec_capacity}
 use Rattle.cb_rank_runs.specs.Crews.{Ran}
-use Rattle.cb_rank_threads.specs.Faults.{IsFirstGone}
+use Rattle.cb_rank_runs.specs.NamedRanks.{IsFirstGone}
 use Rattle.cb_rank_threads.specs.Started.{started, started_recorder}
 use Rattle.cb_rank_runs.proofs.CrewSoFar.{room_left}
-use Rattle.cb_rank_threads.proofs.ThreadJoins.{HasJoined, joined_more, joined_all, first_gone, lost_one, first_lost}
+use Rattle.cb_rank_runs.proofs.LeavingsSoFar.{HasJoined, first_gone}
+use Rattle.cb_rank_threads.proofs.ThreadJoins.{joined_more, joined_all, lost_one, first_lost}
 use Rattle.cb_rank_threads.proofs.ToldThreads.{Tell, told_more, told_all}
 use Rattle.cb_rank_threads.proofs.threads.join_all.Goals as goal
 

@@ -1,8 +1,8 @@
 use Rattle.std.proofs.Common.{◌+◌, ◌≤◌, map, vec_len, vec_capacity, length, IfNone, IfSome}
 use Rattle.cb_rank_runs.specs.Crews.{Ran}
-use Rattle.cb_rank_threads.specs.Faults.{IsFirstGone}
+use Rattle.cb_rank_runs.specs.NamedRanks.{IsFirstGone}
 use Rattle.cb_rank_threads.specs.Started.{started, started_recorder}
-use Rattle.cb_rank_threads.proofs.ThreadJoins.{HasJoined}
+use Rattle.cb_rank_runs.proofs.LeavingsSoFar.{HasJoined}
 use Rattle.cb_rank_threads.proofs.ToldThreads.{Tell}
 use Rattle.cb_rank_threads.proofs.threads.join_all.Given as goal
 

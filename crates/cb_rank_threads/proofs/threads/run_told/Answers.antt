@@ -4,7 +4,8 @@ use Rattle.cb_rank_runs.specs.Crews.{Ran}
 use Rattle.cb_rank_runs.proofs.Crews.{still_opening}
 use Rattle.cb_rank_runs.proofs.FinishedCrew.{ends_all, few_refused, holds_all}
 use Rattle.cb_rank_runs.proofs.OtherRanks.{err_is}
-use Rattle.cb_rank_threads.specs.Faults.{IsFaultOf, NamesLeast, told_as}
+use Rattle.cb_rank_runs.specs.NamedRanks.{IsFaultOf, NamesLeast}
+use Rattle.cb_rank_threads.specs.ThreadFaults.{told_as}
 use Rattle.cb_rank_threads.specs.ToldCrews.{HaveToldPlan}
 use Rattle.cb_rank_threads.proofs.RanksInFaults.{is_fault_of, names_least}
 use Rattle.cb_rank_threads.proofs.ToldThreads.{tells_plan}

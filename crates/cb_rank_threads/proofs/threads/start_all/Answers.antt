@@ -1,9 +1,10 @@
 use Rattle.std.proofs.Common.{rules, length, ◌≡◌, ◌++◌, ◌∷◌, sym, ap, ◌∙◌, subst, map, vec_len, vec_capacity}
 use Rattle.std.proofs.lemmas.List.{length-map}
 use Rattle.cb_rank_runs.specs.Crews.{Member, AreNew}
-use Rattle.cb_rank_threads.specs.Faults.{IsOneOf}
+use Rattle.cb_rank_runs.specs.NamedRanks.{IsOneOf}
 use Rattle.cb_rank_threads.specs.Started.{started, started_recorder}
-use Rattle.cb_rank_threads.proofs.RanksInFaults.{member_is_one, member_is_next}
+use Rattle.cb_rank_runs.proofs.NamedRanks.{member_is_one}
+use Rattle.cb_rank_threads.proofs.RanksInFaults.{member_is_next}
 use Rattle.cb_rank_runs.proofs.CrewSoFar.{images_go_on, count_left, same_left, room_stays, nothing_left}
 use Rattle.cb_rank_threads.proofs.threads.start_all.Goals as goal
 

@@ -2,7 +2,8 @@ use Rattle.std.proofs.Common.{◌≡◌, ap, ◌∙◌}
 use Rattle.std.proofs.lemmas.Result.{IfOk-weaker}
 use Rattle.cb_matrix.specs.Operations.{placed, sum_of}
 use Rattle.cb_matrix.specs.Sparse.{Sparse, Extent}
-use Rattle.cb_selections.specs.Selections.{assigned, outside}
+use Rattle.cb_operations.specs.Selected.{assigned}
+use Rattle.cb_selections.specs.KernelSteps.{outside}
 use Rattle.cb_selections.proofs.AssignedPart.{assigned_is}
 use Rattle.cb_selections.proofs.assignments.assign.Goals as goal
 

@@ -11,7 +11,7 @@ use Rattle.cb_product.proofs.ProductColumns.{own_column}
 use Rattle.cb_product.proofs.StoredColumn.{column_adds}
 use Rattle.cb_product.proofs.ColumnsMade.{walk_none, walk_more, walk_all, before_column}
 use Rattle.cb_elementwise.proofs.ReplacedColumns.{nth_are}
-use Rattle.cb_selections.specs.Regions.{where_true}
+use Rattle.cb_operations.specs.Regions.{where_true}
 use Rattle.cb_selections.proofs.AroundRanges.{around, around_value, around_column}
 use Rattle.cb_selections.proofs.AssignedPart.{value_for, outside_absent}
 use Rattle.cb_selections.proofs.assignments.push_outside.Goals as goal

@@ -3,7 +3,7 @@ use Rattle.std.specs.Prelude.{not}
 use Rattle.cb_matrix.specs.Sparse.{at}
 use Rattle.cb_matrix.specs.Operations.{is_covered}
 use Rattle.cb_product.proofs.ColumnsMade.{IsMadeTo}
-use Rattle.cb_selections.specs.Regions.{where_true}
+use Rattle.cb_operations.specs.Regions.{where_true}
 use Rattle.cb_selections.proofs.assignments.push_outside.Given as goal
 
 abbrev pub invariant-loop-n : goal.invariant-loop-n

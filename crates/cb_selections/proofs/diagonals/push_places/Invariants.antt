@@ -1,6 +1,6 @@
 use Rattle.std.proofs.Common.{get_or}
 use Rattle.cb_product.proofs.ColumnsMade.{IsMadeTo}
-use Rattle.cb_selections.specs.Regions.{where_true}
+use Rattle.cb_operations.specs.Regions.{where_true}
 use Rattle.cb_matrix.specs.Sparse.{at}
 use Rattle.std.specs.Prelude.{◌==◌}
 use Rattle.cb_selections.proofs.diagonals.push_places.Given as goal

@@ -1,6 +1,6 @@
 use Rattle.std.proofs.Common.{◌≡◌, ap, ◌∙◌}
 use Rattle.std.proofs.lemmas.Result.{IfOk-weaker}
-use Rattle.cb_selections.specs.Selections.{extracted, rows_by}
+use Rattle.cb_selections.specs.Extracted.{extracted, rows_by}
 use Rattle.cb_selections.proofs.ExtractedColumns.{extracted_is}
 use Rattle.cb_selections.proofs.extracts.extract.Goals as goal
 

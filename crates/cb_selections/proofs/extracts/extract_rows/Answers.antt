@@ -1,7 +1,7 @@
 use Rattle.std.proofs.Common.{◌≡◌, length, ap, ◌∙◌}
 use Rattle.std.proofs.lemmas.Result.{IfOk-weaker}
 use Rattle.cb_matrix.specs.Sparse.{Extent}
-use Rattle.cb_selections.specs.Selections.{rows_by}
+use Rattle.cb_selections.specs.Extracted.{rows_by}
 use Rattle.cb_selections.proofs.ListedRows.{all_listed}
 use Rattle.cb_selections.proofs.extracts.extract_rows.Goals as goal
 

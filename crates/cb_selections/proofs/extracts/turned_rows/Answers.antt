@@ -1,7 +1,7 @@
 use Rattle.std.proofs.Common.{◌≡◌, ap, ◌∙◌}
 use Rattle.std.proofs.lemmas.Result.{IfOk-weaker}
 use Rattle.cb_matrix.specs.Operations.{transposed}
-use Rattle.cb_selections.specs.Selections.{rows_by, columns_by}
+use Rattle.cb_selections.specs.Extracted.{rows_by, columns_by}
 use Rattle.cb_selections.proofs.ExtractedColumns.{rows_are}
 use Rattle.cb_selections.proofs.extracts.turned_rows.Goals as goal
 

@@ -1,7 +1,7 @@
 use Rattle.std.proofs.Common.{rules, ◌<◌, ◌^◌}
 use Rattle.cb_rank_runs.proofs.Crews.{still_opening}
 use Rattle.cb_rank_runs.proofs.FinishedCrew.{ends_all, few_refused, holds_all}
-use Rattle.cb_rank_threads.proofs.RanksInFaults.{gone_is_rank, least_gone}
+use Rattle.cb_rank_runs.proofs.NamedRanks.{gone_is_rank, least_gone}
 use Rattle.cb_rank_crews.proofs.crew.Crew.run_plan.Goals as goal
 
 pub finish-requires-clause-opening : goal.finish-requires-clause-opening

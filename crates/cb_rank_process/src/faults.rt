@@ -1,0 +1,64 @@
+//! Why a call of a process isn't done.
+use cb_messages::MessageFault;
+use cb_plan::PlanFault;
+use cb_rank_driven::{Refusal, StartFault};
+use std::alloc::AllocError;
+
+/// Why a call of a process isn't done.
+#[derive(Clone, Copy, PartialEq, Drop)]
+pub enum ProcessFault {
+    /// Another call is next.
+    NotNow,
+    /// The half doesn't wait for this letter, or what arrived is no letter.
+    Stray,
+    /// There is no such semiring, grid, rank, operation or register, or the register has no matrix.
+    Absent,
+    /// The text has a fault, or memory was refused while it was read.
+    Text,
+    /// The shapes of the operands don't agree.
+    Shapes,
+    /// The block was lost when memory was refused at this rank.
+    Lost(u16),
+    /// Memory was refused.
+    Memory,
+}
+
+impl From<AllocError> for ProcessFault {
+    fn from(_error: AllocError) -> ProcessFault {
+        ProcessFault::Memory
+    }
+}
+
+impl From<Refusal> for ProcessFault {
+    fn from(refusal: Refusal) -> ProcessFault {
+        match refusal {
+            Refusal::NotNow => ProcessFault::NotNow,
+            Refusal::Stray => ProcessFault::Stray,
+            Refusal::Memory => ProcessFault::Memory,
+        }
+    }
+}
+
+impl From<StartFault> for ProcessFault {
+    fn from(fault: StartFault) -> ProcessFault {
+        match fault {
+            StartFault::Unfit => ProcessFault::Absent,
+            StartFault::Memory => ProcessFault::Memory,
+        }
+    }
+}
+
+impl From<MessageFault> for ProcessFault {
+    fn from(fault: MessageFault) -> ProcessFault {
+        match fault {
+            MessageFault::Broken => ProcessFault::Stray,
+            MessageFault::Memory => ProcessFault::Memory,
+        }
+    }
+}
+
+impl From<PlanFault> for ProcessFault {
+    fn from(_fault: PlanFault) -> ProcessFault {
+        ProcessFault::Memory
+    }
+}

@@ -1,0 +1,208 @@
+//! A process: its matrices, and the plan that it does.
+ghost use Rattle.std.specs.Prelude.{◌≡◌, ◌↔◌, ◌<◌, [], slice_set, replicate, Some, None, IsTrue, IfSome, IfNone, IfOk, IfErr, OnOk, OnErr};
+ghost use Rattle.cb_plan.specs.declared.stores.Slot.TheVariants.{Sheet};
+ghost use Rattle.cb_rank_process.specs.Processes.{register_at, given_up, with_registers, new_process, process_view, IsFree, Starts};
+ghost use Rattle.cb_rank_process.specs.Kept.{Keeps, IsEndFault};
+
+use crate::faults::ProcessFault;
+use cb_dcsc::Block;
+use cb_grid::Grid;
+use cb_letters::Letter;
+use cb_matrix::Shape;
+use cb_plan::{CheckedPlan, RankStore, SLOTS, SharedBlock};
+use cb_rank_driven::{DrivenRank, NoBlock};
+use cb_semirings::Semiring;
+use std::alloc::{AllocError, Global};
+use std::marker::Model;
+
+/// How many matrices a process keeps at once.
+pub const REGISTERS: u32 = 4;
+
+/// A matrix that is cut over the grid: its shape, and the block of this process. Or, of an answer in the order of its text,
+/// some columns, in the whole shape.
+#[derive(Drop)]
+pub(crate) struct Kept<S: Semiring> {
+    pub(crate) shape: Shape,
+    pub(crate) block: Block<S>,
+}
+
+impl<S: Semiring> Model for Kept<S> {
+    ghost use Rattle.cb_rank_process.specs.Processes.{KeptView};
+
+    ghost Value = { KeptView };
+
+    ghost view = { λ kept. record { shape = kept.shape; block = kept.block } };
+}
+
+/// A plan that is being done, and where it leaves a block of a matrix of this shape.
+#[derive(Drop)]
+pub(crate) struct Task<S: Semiring> {
+    pub(crate) rank: DrivenRank<S>,
+    pub(crate) slot: u16,
+    pub(crate) shape: Shape,
+}
+
+impl<S: Semiring> Model for Task<S> {
+    ghost use Rattle.cb_rank_process.specs.Processes.{TaskView};
+
+    ghost Value = { TaskView };
+
+    ghost view = { λ task. record { rank = task.rank; slot = task.slot; shape = task.shape } };
+}
+
+/// One process of a grid: rank `me`.
+#[derive(Drop)]
+pub struct Process<S: Semiring> {
+    pub(crate) grid: Grid,
+    pub(crate) me: u16,
+    pub(crate) registers: Vec<Option<Kept<S>>>,
+    pub(crate) task: Option<Task<S>>,
+    /// A letter that was posted, but not handed out, since memory was refused.
+    pub(crate) unsent: Option<Letter<SharedBlock<S>>>,
+}
+
+impl<S: Semiring> Model for Process<S> {
+    ghost use Rattle.cb_rank_process.specs.Processes.{ProcessView, IsOf, process_view};
+
+    ghost Value = { ProcessView };
+
+    ghost view = { λ x. process_view x.grid.side x.me x.registers.items x.task x.unsent };
+
+    ghost invariant = { λ x. IsOf x.me x.task };
+}
+
+impl<S: Semiring> Process<S> {
+    /// Rank `me` of the grid of this side. It keeps nothing yet, and does no plan.
+    pub fn open(alloc: Global, side: u32, me: u32) -> Result<Process<S>, ProcessFault>
+        ensures { IfOk result (λ x. x ≡ new_process side me) }
+    {
+        let Ok(grid) = Grid::new(side) else {
+            return Err(ProcessFault::Absent);
+        };
+        if me >= u32::from(grid.ranks()) {
+            return Err(ProcessFault::Absent);
+        }
+        Ok(Process {
+            grid,
+            me: me as u16,
+            registers: empty_registers(alloc)?,
+            task: None,
+            unsent: None,
+        })
+    }
+
+    /// Frees all matrices and the plan. Nothing is left of the process but its rank.
+    pub fn clear(&mut self)
+        ensures { self.new ≡ process_view self.old.side self.old.me [] None None }
+    {
+        self.registers.clear();
+        self.task = None;
+        self.unsent = None;
+    }
+
+    /// Whether a plan may be begun.
+    pub(crate) fn is_free(&self) -> bool
+        ensures { IsTrue result ↔ IsFree self.now }
+    {
+        self.task.is_none() && self.unsent.is_none()
+    }
+
+    /// What a register has.
+    pub(crate) fn kept(&self, register: u32) -> Option<&Kept<S>>
+        ensures some { IfSome result (λ kept. register_at self.now register ≡ Some kept.now) }
+        ensures none { IfNone result (register_at self.now register ≡ None) }
+    {
+        match self.registers.get(register as usize) {
+            Some(Some(kept)) => Some(kept),
+            _ => None,
+        }
+    }
+
+    /// Takes a matrix out of a register.
+    pub(crate) fn take_out(&mut self, register: u32) -> Result<Kept<S>, ProcessFault>
+        ensures kept { IfOk result (λ kept. register_at self.old register ≡ Some kept) }
+        ensures given_up { OnOk result (self.new ≡ with_registers self.old (given_up register self.old.registers)) }
+        ensures none { OnErr result (self.new ≡ self.old) }
+    {
+        let Some(place) = self.registers.get_mut(register as usize) else {
+            return Err(ProcessFault::Absent);
+        };
+        match place.take() {
+            Some(kept) => Ok(kept),
+            None => Err(ProcessFault::Absent),
+        }
+    }
+
+    /// Begins a plan, with these slots of this rank.
+    pub(crate) fn begin(
+        &mut self,
+        alloc: Global,
+        plan: &CheckedPlan,
+        slot: u16,
+        shape: Shape,
+        store: RankStore<S>,
+    ) -> Result<(), ProcessFault>
+        ensures started { OnOk result (Starts plan.now slot shape store self.old self.new) }
+        ensures unchanged { OnErr result (self.new ≡ self.old) }
+    {
+        let rank = DrivenRank::start(alloc, plan, self.me, store)?;
+        self.task = Some(Task { rank, slot, shape });
+        Ok(())
+    }
+
+    /// Ends the plan, if all its halves are done, and keeps the block that it leaves in a register.
+    ///
+    /// If the plan computes an operation that all processes of the grid began on their blocks of some matrices, each did its own
+    /// part, and on each lane the letters taken are the first of those posted, then that is this process's block of the
+    /// operation's answer, or else a rank is named that was refused memory.
+    pub fn end(&mut self, register: u32) -> Result<(), ProcessFault>
+        ensures keeps { OnOk result (Keeps S.arithmetic self.old register self.new) }
+        ensures lost { IfErr result (IsEndFault S.arithmetic self.old) }
+    {
+        if register as usize >= self.registers.len() {
+            return Err(ProcessFault::Absent);
+        }
+        let Some(task) = self.task.take() else {
+            return Err(ProcessFault::NotNow);
+        };
+        let Task { rank, slot, shape } = task;
+        match rank.finish(slot) {
+            Ok(block) => {
+                self.registers[register as usize] = Some(Kept { shape, block });
+                Ok(())
+            }
+            Err(NoBlock::NotDone(rank)) => {
+                self.task = Some(Task { rank, slot, shape });
+                Err(ProcessFault::NotNow)
+            }
+            Err(NoBlock::Empty) => Err(ProcessFault::Absent),
+            Err(NoBlock::Lost(origin)) => Err(ProcessFault::Lost(origin)),
+            Err(NoBlock::Memory) => Err(ProcessFault::Memory),
+        }
+    }
+}
+
+/// Registers without matrices.
+fn empty_registers<S: Semiring>(alloc: Global) -> Result<Vec<Option<Kept<S>>>, AllocError>
+    ensures { IfOk result (λ registers. registers.items ≡ replicate REGISTERS None) }
+{
+    let mut registers = Vec::with_capacity(alloc, REGISTERS as usize)?;
+    for _ in 0..REGISTERS {
+        registers.push(None)?;
+    }
+    Ok(registers)
+}
+
+/// Puts a block into a slot, lent if there is memory for that: copies of the slot then share it.
+pub(crate) fn put_lent<S: Semiring>(
+    alloc: Global,
+    store: &mut RankStore<S>,
+    slot: u16,
+    block: Block<S>,
+)
+    requires { slot < SLOTS }
+    ensures { store.new ≡ slice_set store.old slot (Sheet block) }
+{
+    store.put(slot, block);
+    let _ = store.lend(alloc, slot);
+}

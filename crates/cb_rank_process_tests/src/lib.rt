@@ -1,0 +1,9 @@
+//! Tests of processes: all processes of a grid in one, each letter between them as a head and lists.
+#![tactic(auto)]
+
+#[cfg(test)]
+mod answers;
+#[cfg(test)]
+mod calls;
+#[cfg(test)]
+mod crews;

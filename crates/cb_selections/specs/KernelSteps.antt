@@ -1,0 +1,45 @@
+-- What kernels make on their way to a selection, and what lets them copy whole lists.
+use Rattle.std.specs.Prelude.{◌≡◌, ℕ, Bool, true, false, not, map, List}
+use Rattle.cb_semirings.specs.Arithmetic.{Arithmetic}
+use Rattle.cb_matrix.specs.declared.Entry.{Entry}
+use Rattle.cb_matrix.specs.Sparse.{Sparse, Extent, at}
+use Rattle.cb_matrix.specs.Values.{matrix_of}
+use Rattle.cb_matrix.specs.Operations.{is_covered}
+use Rattle.cb_dcsc.specs.Columns.{row_value}
+use Rattle.cb_operations.specs.declared.regions.Region.{Region}
+use Rattle.cb_operations.specs.declared.regions.Region.TheVariants.{Lower, Upper, On, Off}
+use Rattle.cb_operations.specs.declared.functions.Function.{Function}
+use Rattle.cb_operations.specs.declared.functions.Function.TheVariants.{Constant, Sum, LeftProduct, RightProduct, Row, Column}
+use Rattle.cb_operations.specs.Functions.{function_value}
+use Rattle.cb_operations.specs.Regions.{where_true}
+use Rattle.cb_operations.specs.Selected.{pair_value}
+
+-- whether the rows of a region follow one another in each column
+abbrev pub is_one_range : Region → Bool
+is_one_range (Lower d) = true
+is_one_range (Upper d) = true
+is_one_range (On d) = true
+is_one_range (Off d) = false
+
+-- whether the result of a function depends on the column
+abbrev pub depends_on_column : Function → Bool
+depends_on_column (Constant n) = false
+depends_on_column (Sum n) = false
+depends_on_column (LeftProduct n) = false
+depends_on_column (RightProduct n) = false
+depends_on_column Row = false
+depends_on_column Column = true
+
+-- the result of a function for each entry
+abbrev pub results_of : Arithmetic → Function → List Entry → List ℕ
+results_of s function es = map (λ e. function_value s function e.row e.column e.value) es
+
+-- a matrix without its part of some shape that begins at a corner
+abbrev pub outside : Arithmetic → ℕ × ℕ → Extent → Sparse → Sparse
+outside s corner part a = matrix_of s a.shape (λ i j. where_true s.zero (not (is_covered corner part i j)) (at s a i j))
+
+-- the kept rows and values are the Kronecker product of two columns, of which the second has h rows
+abbrev pub IsPaired : Arithmetic → ℕ → List ℕ → List ℕ → List ℕ → List ℕ → List ℕ → List ℕ → Type 0
+IsPaired s h left_rows left_values rows values kept_rows kept_values =
+    (i : ℕ) → row_value s.zero kept_rows kept_values i
+    ≡ pair_value s h (row_value s.zero left_rows left_values) (row_value s.zero rows values) i
