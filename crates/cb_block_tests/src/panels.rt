@@ -136,7 +136,7 @@ fn panel_count<R: Threads + Sync>(
     requires { left.now.shape.cols ≡ right.now.shape.rows }
 {
     let made = multiply_panels(rt, alloc, panels(most), left, right)?;
-    Ok(made.panels().len())
+    Ok(made.panels().1.len() + 1)
 }
 
 /// Whether the product of some factors has this many panels, of at most so many.

@@ -76,7 +76,7 @@ fn panelled(alloc: Global, matrix: Matrix<MinPlus>) -> Result<PanelledMatrix<Min
     ensures { IfOk result (λ m. m ≡ matrix) }
 {
     let block = Block::from_ordered(alloc, matrix.shape(), matrix.entries())?;
-    PanelledMatrix::from_block(alloc, block)
+    Ok(PanelledMatrix::from_block(alloc, block))
 }
 
 /// Reads a graph and sources, and computes the numbers of the vertices from each source, a column for each.

@@ -64,19 +64,8 @@ fn compute_whole<S: Semiring>(
     ensures fault { IfErr result (IsBlocksFault operation (lent_in operands.now)) }
 {
     match run(alloc, operation, operands) {
-        Ok(block) => in_one_panel(alloc, block),
+        Ok(block) => Ok(PanelledMatrix::from_block(alloc, block)),
         Err(fault) => Err(job_fault(fault)),
-    }
-}
-
-/// A block as a matrix in one panel.
-fn in_one_panel<S: Semiring>(alloc: Global, block: Block<S>) -> Result<PanelledMatrix<S>, JobFault>
-    ensures ok { IfOk result (λ m. m ≡ block) }
-    ensures fault { IfErr result (λ f. f ≡ JobFault.Memory) }
-{
-    match PanelledMatrix::from_block(alloc, block) {
-        Ok(matrix) => Ok(matrix),
-        Err(_) => Err(JobFault::Memory),
     }
 }
 

@@ -39,8 +39,7 @@ fn rows_of<S: Semiring>(
 {
     let numbers = numbers_of(alloc, rows, block.shape().rows(), SelectionRefusal::NoRow)?;
     let part = extract_rows(alloc, block, &numbers)?;
-    let answer = PanelledMatrix::from_block(alloc, part)?;
-    Ok(answer)
+    Ok(PanelledMatrix::from_block(alloc, part))
 }
 
 /// The listed columns of a block.
@@ -59,8 +58,7 @@ fn columns_of<S: Semiring>(
         SelectionRefusal::NoColumn,
     )?;
     let part = extract_columns(alloc, block, &numbers)?;
-    let answer = PanelledMatrix::from_block(alloc, part)?;
-    Ok(answer)
+    Ok(PanelledMatrix::from_block(alloc, part))
 }
 
 /// Checks that two matrices list rows and columns of a block.
@@ -92,8 +90,7 @@ fn part_of<S: Semiring>(
     let some_rows = listed(alloc, rows, shape.rows())?;
     let some_columns = listed(alloc, columns, shape.cols())?;
     let part = extract(alloc, block, &some_rows, &some_columns)?;
-    let answer = PanelledMatrix::from_block(alloc, part)?;
-    Ok(answer)
+    Ok(PanelledMatrix::from_block(alloc, part))
 }
 
 /// Reads a matrix and a list, and makes the listed rows.

@@ -28,3 +28,5 @@ pub mod OneBlock
 -- PanelWalks: panels side by side, each walked as the only block of a grid. Panels: panels that are appended and joined.
 pub mod PanelWalks
 pub mod Panels
+-- PanelValues: the value at a place of panels.
+pub mod PanelValues

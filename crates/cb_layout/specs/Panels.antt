@@ -3,6 +3,8 @@ use Rattle.std.specs.Prelude.{◌≡◌, ◌<◌, List, length, flat_map, All}
 use Rattle.cb_semirings.specs.Arithmetic.{Arithmetic}
 use Rattle.cb_matrix.specs.declared.Entry.{Entry}
 use Rattle.cb_matrix.specs.Sparse.{Extent, Sparse, IsMatrix}
+use Rattle.cb_layout.specs.declared.whole.Whole.{Whole}
+use Rattle.cb_layout.specs.declared.whole.Whole.TheVariants.{Lent, Made}
 
 -- the entries of all panels, those of one after those of the other
 abbrev pub entries_of_panels : List Sparse → List Entry
@@ -17,3 +19,8 @@ pub record ArePanels (s : Arithmetic) (shape : Extent) (panels : List Sparse) : 
   pub some : 0 < length panels
   pub shapes : All (λ panel. panel.shape ≡ shape) panels
   pub matrix : IsMatrix s (side_by_side shape panels)
+
+-- what is lent or was made
+abbrev pub whole_of : {M : Type 0} → Whole M → M
+whole_of (Lent m) = m.now
+whole_of (Made m) = m

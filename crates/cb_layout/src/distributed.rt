@@ -201,8 +201,8 @@ impl<S: Semiring + Send + Sync> DistributedMatrix<S> {
     }
 
     /// Frees the matrix, as dropping it does. If it has many entries, each block is freed by a thread of its own.
-    pub fn free<R: Threads + Sync>(self, rt: &R, alloc: Global) {
-        free_blocks(rt, alloc, self.len, self.blocks);
+    pub fn free<R: Threads + Sync>(mut self, rt: &R, alloc: Global) {
+        free_blocks(rt, alloc, self.len, &mut self.blocks);
     }
 }
 

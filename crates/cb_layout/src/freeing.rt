@@ -14,7 +14,7 @@ pub(crate) fn free_blocks<S: Semiring + Send, R: Threads + Sync>(
     rt: &R,
     alloc: Global,
     entries: usize,
-    mut blocks: Vec<Block<S>>,
+    blocks: &mut [Block<S>],
 ) {
     let threads = blocks.len();
     if threads < 2 || entries < FREED_APART {
@@ -22,7 +22,7 @@ pub(crate) fn free_blocks<S: Semiring + Send, R: Threads + Sync>(
     }
     thread::for_each_mut(
         rt,
-        &mut blocks,
+        blocks,
         threads,
         &|_, block| { *block = Block::empty(alloc, block.shape()) },
     );

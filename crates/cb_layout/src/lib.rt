@@ -14,9 +14,11 @@ mod glue;
 mod panelled;
 mod single;
 mod traversal;
+mod whole;
 
 pub use cb_grid::Grid;
 pub use distributed::DistributedMatrix;
 pub use glue::{append_segment, gather, stored};
 pub use panelled::PanelledMatrix;
 pub use traversal::{Segment, Segments};
+pub use whole::Whole;

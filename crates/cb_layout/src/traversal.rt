@@ -1,5 +1,5 @@
 //! Walks over a matrix in its order: column by column, and by row in each column. A matrix stands over a grid or in panels.
-ghost use Rattle.std.specs.Prelude.{◌≡◌, ℕ, ◌<◌, ◌≤◌, ◌+◌, ◌*◌, [], ◌++◌, length, All, IfSome, IfNone, slice_index};
+ghost use Rattle.std.specs.Prelude.{◌≡◌, ℕ, ◌<◌, ◌≤◌, ◌+◌, ◌*◌, [], ◌∷◌, ◌++◌, length, All, IfSome, IfNone, slice_index};
 ghost use Rattle.cb_grid.specs.Parts.{part_start};
 ghost use Rattle.cb_grid.specs.Blocks.{glued_blocks};
 ghost use Rattle.cb_layout.specs.Distributed.{AreBlocks};
@@ -65,17 +65,15 @@ impl<'a, S: Semiring> Segments<'a, S> {
     pub fn of_block(block: &'a Block<S>) -> Segments<'a, S>
         ensures { result ≡ block.now.entries }
     {
-        Segments::over_panels(slice::from_ref(block))
+        Segments::over_panels(block, &[])
     }
 
-    /// All segments of some panels, at least one.
-    pub(crate) fn over_panels(panels: &'a [Block<S>]) -> Segments<'a, S>
-        requires { 0 < length panels.now }
-        ensures { result ≡ entries_of_panels panels.now }
+    /// All segments of a panel and of those after it.
+    pub(crate) fn over_panels(first: &'a Block<S>, others: &'a [Block<S>]) -> Segments<'a, S>
+        ensures { result ≡ entries_of_panels (first.now ∷ others.now) }
     {
-        let (first, others) = panels.split_at(1);
         Segments {
-            current: GridSegments::of_panel(first),
+            current: GridSegments::of_panel(slice::from_ref(first)),
             panels: others,
         }
     }

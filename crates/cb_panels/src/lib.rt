@@ -71,7 +71,7 @@ pub fn multiply_panels<S: Semiring + Send + Sync, R: Threads + Sync>(
 {
     if panels.most < 2 || right.columns() < 2 {
         let whole = cb_product::multiply(alloc, left, right)?;
-        return PanelledMatrix::from_block(alloc, whole);
+        return Ok(PanelledMatrix::from_block(alloc, whole));
     }
     let index = ColumnIndex::new(alloc, left, right.len())?;
     let counts = products_of_columns(alloc, left, &index, right)?;
@@ -143,9 +143,9 @@ fn make_panels<S: Semiring + Send + Sync, R: Threads + Sync>(
             ensures { IfOk result (λ m. m ≡ product S.arithmetic left.entry.now (only_columns last.entry.now right.entry.now)) }
         { make_panels::<S, R>(rt, alloc, left, index, right, last, last_counts, rest) },
     );
-    let front = front?;
-    let back = back?;
-    front.append(back)
+    let (mut front, mut back) = (front?, back?);
+    front.append(alloc, &mut back)?;
+    Ok(front)
 }
 
 /// Makes these columns of the product in one panel, in another thread, while this one waits.
@@ -186,5 +186,5 @@ fn make_panel<S: Semiring>(
 {
     let room = most_entries(counts, left.shape().rows());
     let panel = multiply_columns(alloc, left, index, right, columns, room)?;
-    PanelledMatrix::from_block(alloc, panel)
+    Ok(PanelledMatrix::from_block(alloc, panel))
 }

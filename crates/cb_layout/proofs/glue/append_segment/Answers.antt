@@ -1,4 +1,4 @@
-use Rattle.std.proofs.Common.{◌≡◌, ◌+◌, ◌-◌, ◌<◌, ◌≤◌, ◌++◌, [], ◌∷◌, length, take, get_or, ap, sym, ◌∙◌, arith, append-nil, append_assoc, vec_capacity, vec_len, rules}
+use Rattle.std.proofs.Common.{◌+◌, ◌<◌, ◌≤◌, ◌++◌, [], ◌∷◌, length, take, get_or, ap, sym, ◌∙◌, arith, append-nil, append_assoc, rules}
 use Rattle.std.proofs.lemmas.List.{take_all}
 use Rattle.cb_matrix.specs.declared.Entry.{Entry}
 use Rattle.cb_layout.specs.Segments.{shifted}
