@@ -5,7 +5,7 @@ use Rattle.std.proofs.lemmas.Bool.Decides.{nat_tests}
 use Rattle.std.proofs.lemmas.List.{take_rest}
 use Rattle.std.proofs.lemmas.Bool.{cases_Bool}
 use Rattle.cb_market_lines.specs.Lines.{lines, words, is_digit, is_number, is_comment, is_skipped, is_negative, magnitude, number, number_from, kept_from}
-use Rattle.cb_market_lines.specs.Cursor.{line_at, after_line, is_word_end, after_word, front_digits, after_digits, Writes, IsNumberBefore, IsPlainLine}
+use Rattle.cb_market_lines.specs.Cursor.{line_at, after_line, is_word_end, after_word, front_digits, after_digits, Writes, IsNumberBefore, IsLine, IsPlainPlace, IsPlainLine}
 use Rattle.std.specs.Prelude.{Result, Ok, Err, IfOk, IfErr, None, Some}
 use Rattle.cb_semirings.specs.Arithmetic.{Arithmetic}
 use Rattle.cb_matrix.specs.declared.Entry.{Entry}
@@ -13,9 +13,8 @@ use Rattle.cb_matrix.specs.Sparse.{Extent}
 use Rattle.cb_market_lines.specs.declared.Kind.{Kind}
 use Rattle.cb_market_lines.specs.declared.header.Header.{Header}
 use Rattle.cb_market_lines.specs.declared.header.Field.{Field}
-use Rattle.cb_market_lines.specs.declared.header.Field.TheVariants.{Integer}
 use Rattle.cb_market_lines.specs.declared.header.Symmetry.{Symmetry}
-use Rattle.cb_market_lines.specs.Checks.{entry_fault, entry_of, integers, numbers_fault, numbers_entry, NumbersWrite}
+use Rattle.cb_market_lines.specs.Checks.{entry_fault, entry_of, integers, patterns, place_fault, PlaceWrites, numbers_fault, numbers_entry, NumbersWrite}
 use Rattle.cb_market_lines.specs.Faults.{IsEntryOf, IsNextEntry}
 use Rattle.cb_market_lines.proofs.WordNumbers.{number_magnitude}
 use Rattle.cb_market_lines.proofs.FrontWords.{digit_no_end, after_digits_word, front_digits_word, number_front, ended}
@@ -69,6 +68,23 @@ number_feed text rest value h =
     let p = number_word text rest 10 value (feed_ends rest) h in
     (p.0 ∙ ap (λ l. front_digits text ∷ l) (no_word (10 ∷ rest) (line_end_feed 10 rest refl)), p.1)
 
+-- two consecutive numbers
+pub place_is : (text second : List ℕ) (row column : ℕ) (rest : List ℕ) → IsNumberBefore text 32 row second → IsNumberBefore second 10 column rest → IsPlainPlace text row column rest
+place_is text second row column rest a b =
+    let p = number_blank text second row a in
+    let q = number_feed second rest column b in
+    record {
+      row_word = front_digits text;
+      column_word = front_digits second;
+      line = record {
+        some = (digits_begin text a.front.0).1;
+        words_are = p.0 ∙ ap (λ l. front_digits text ∷ l) q.0;
+        after = p.1 ∙ q.1;
+      };
+      row_is = a.front;
+      column_is = b.front;
+    }
+
 -- three consecutive numbers
 pub plain_is : (text second third : List ℕ) (row column value : ℕ) (rest : List ℕ) → IsNumberBefore text 32 row second → IsNumberBefore second 32 column third → IsNumberBefore third 10 value rest → IsPlainLine text row column value rest
 plain_is text second third row column value rest a b c =
@@ -79,40 +95,38 @@ plain_is text second third row column value rest a b c =
       row_word = front_digits text;
       column_word = front_digits second;
       value_word = front_digits third;
-      some = (digits_begin text a.front.0).1;
-      words_are = p.0 ∙ ap (λ l. front_digits text ∷ l) (q.0 ∙ ap (λ l. front_digits second ∷ l) r.0);
+      line = record {
+        some = (digits_begin text a.front.0).1;
+        words_are = p.0 ∙ ap (λ l. front_digits text ∷ l) (q.0 ∙ ap (λ l. front_digits second ∷ l) r.0);
+        after = p.1 ∙ q.1 ∙ r.1;
+      };
       row_is = a.front;
       column_is = b.front;
       value_is = c.front;
-      after = p.1 ∙ q.1 ∙ r.1;
     }
 
 no_comment : (w : List ℕ) → is_number w ≡ true → is_comment w ≡ false
 no_comment [] e = cc
 no_comment (c ∷ w) e = ⊎_elim (λ (a : (c == 37) ≡ true). let d : is_digit c ≡ false = grind (arith, nat_tests) in cc (rw d at e)) (λ (a : (c == 37) ≡ false). a) (cases_Bool (c == 37))
 
--- the words of a plain line
-abbrev pub plain_words : {text : List ℕ} {row column value : ℕ} {rest : List ℕ} → IsPlainLine text row column value rest → List (List ℕ)
-plain_words h = h.row_word ∷ h.column_word ∷ h.value_word ∷ []
-
--- the line of three numbers isn't skipped
-plain_kept : (n : ℕ) (text : List ℕ) (row column value : ℕ) (rest : List ℕ) (h : IsPlainLine text row column value rest) → kept_from n text ≡ (n, plain_words h) ∷ kept_from (n + 1) rest
-plain_kept n text row column value rest h =
-    let k = kept_here n text h.some (ap is_skipped h.words_are ∙ no_comment h.row_word h.row_is.0) in
-    k ∙ ap (λ ws. (n, ws) ∷ kept_from (n + 1) (after_line text)) h.words_are ∙ ap (λ l. (n, plain_words h) ∷ kept_from (n + 1) l) h.after
+-- a line that begins with a number isn't skipped
+line_kept : (n : ℕ) (text w : List ℕ) (ws : List (List ℕ)) (rest : List ℕ) → IsLine text (w ∷ ws) rest → is_number w ≡ true → kept_from n text ≡ (n, w ∷ ws) ∷ kept_from (n + 1) rest
+line_kept n text w ws rest h e =
+    let k = kept_here n text h.some (ap is_skipped h.words_are ∙ no_comment w e) in
+    k ∙ ap (λ l. (n, l) ∷ kept_from (n + 1) (after_line text)) h.words_are ∙ ap (λ l. (n, w ∷ ws) ∷ kept_from (n + 1) l) h.after
 
 -- one line less is left
-pub plain_lines : (text : List ℕ) (row column value : ℕ) (rest : List ℕ) → IsPlainLine text row column value rest → length (lines text) ≡ 1 + length (lines rest)
-plain_lines text row column value rest h = lines_more text h.some ∙ ap (λ l. 1 + length (lines l)) h.after
+pub line_fewer : (text : List ℕ) (ws : List (List ℕ)) (rest : List ℕ) → IsLine text ws rest → length (lines text) ≡ 1 + length (lines rest)
+line_fewer text ws rest h = lines_more text h.some ∙ ap (λ l. 1 + length (lines l)) h.after
 
 -- the entry of a line, or its fault
 pub entry_found : (s : Arithmetic) (header : Header) (shape : Extent) (ws : List (List ℕ)) (found : Result Entry Kind) → IfOk found (λ e. (entry_fault s header shape ws ≡ None) × (e ≡ entry_of s header ws)) → IfErr found (λ k. entry_fault s header shape ws ≡ Some k) → IsEntryOf s header shape ws found
 entry_found s header shape ws (Ok e) a b = a
 entry_found s header shape ws (Err k) a b = b
 
--- a header of whole numbers
-pub integer_header : (header : Header) → header.field ≡ Integer → record { field = Integer; symmetry = header.symmetry } ≡ header
-integer_header header e = ap (λ (f : Field). let h : Header = record { field = f; symmetry = header.symmetry } in h) (sym e)
+-- the header of a field
+pub field_header : (header : Header) (field : Field) → header.field ≡ field → record { field = field; symmetry = header.symmetry } ≡ header
+field_header header field e = ap (λ (f : Field). let h : Header = record { field = f; symmetry = header.symmetry } in h) (sym e)
 
 -- digits have no sign
 no_minus : (w : List ℕ) → is_number w ≡ true → is_negative w ≡ false
@@ -137,18 +151,28 @@ module _ (s : Arithmetic) (symmetry : Symmetry) (shape : Extent) where
 
   -- the entry of a plain line, or its fault
   pub plain_found : (text : List ℕ) (row column value : ℕ) (rest : List ℕ) (h : IsPlainLine text row column value rest) (found : Result Entry Kind) → value < 2 ^ 64
-      → IfOk found (NumbersWrite s symmetry shape row column value) → IfErr found (λ k. numbers_fault s symmetry shape row column value ≡ Some k) → IsEntryOf s (integers symmetry) shape (plain_words h) found
+      → IfOk found (NumbersWrite s symmetry shape row column value) → IfErr found (λ k. numbers_fault s symmetry shape row column value ≡ Some k) → IsEntryOf s (integers symmetry) shape (h.row_word ∷ h.column_word ∷ h.value_word ∷ []) found
   plain_found text row column value rest h (Ok e) small ok fault =
       (numbers_faulty h.row_word h.column_word h.value_word row column value h.row_is h.column_is h.value_is small ∙ ok.0, ok.1 ∙ sym (numbers_written h.row_word h.column_word h.value_word row column value h.row_is h.column_is h.value_is small))
   plain_found text row column value rest h (Err k) small ok fault = numbers_faulty h.row_word h.column_word h.value_word row column value h.row_is h.column_is h.value_is small ∙ fault
 
--- the next entry, if its line is plain
-pub plain_next : (s : Arithmetic) (header : Header) (shape : Extent) (n : ℕ) (text : List ℕ) (row column value : ℕ) (rest : List ℕ) (found : Result Entry Kind) (h : IsPlainLine text row column value rest) → IsEntryOf s header shape (plain_words h) found → IsNextEntry s header shape n text n found rest
-plain_next s header shape n text row column value rest found h k = record {
-  line_words = plain_words h;
-  kept = plain_kept n text row column value rest h;
+  -- two words have the fault of the place that they write
+  place_faulty : (first second : List ℕ) (row column : ℕ) → Writes first row → Writes second column → entry_fault s (patterns symmetry) shape (first ∷ second ∷ []) ≡ place_fault symmetry shape row column
+  place_faulty first second row column a b = rw (a.0, b.0, a.1, b.1) refl
+
+  -- the entry of a plain line without a value, or its fault
+  pub place_found : (text : List ℕ) (row column : ℕ) (rest : List ℕ) (h : IsPlainPlace text row column rest) (found : Result Entry Kind)
+      → IfOk found (PlaceWrites s symmetry shape row column) → IfErr found (λ k. place_fault symmetry shape row column ≡ Some k) → IsEntryOf s (patterns symmetry) shape (h.row_word ∷ h.column_word ∷ []) found
+  place_found text row column rest h (Ok e) ok fault = (place_faulty h.row_word h.column_word row column h.row_is h.column_is ∙ ok.0, rw (h.row_is.1, h.column_is.1) ok.1)
+  place_found text row column rest h (Err k) ok fault = place_faulty h.row_word h.column_word row column h.row_is h.column_is ∙ fault
+
+-- the next entry, if its line begins with a number
+pub line_next : (s : Arithmetic) (header : Header) (shape : Extent) (n : ℕ) (text w : List ℕ) (ws : List (List ℕ)) (rest : List ℕ) (found : Result Entry Kind) → IsLine text (w ∷ ws) rest → is_number w ≡ true → IsEntryOf s header shape (w ∷ ws) found → IsNextEntry s header shape n text n found rest
+line_next s header shape n text w ws rest found h e k = record {
+  line_words = w ∷ ws;
+  kept = line_kept n text w ws rest h e;
   found_is = k;
-  count = omega (arith, plain_lines text row column value rest h);
+  count = omega (arith, line_fewer text (w ∷ ws) rest h);
   later = omega arith;
   shorter = omega (arith, ap length h.after, after_line-lt text h.some);
 }

@@ -217,6 +217,11 @@ WriteInteger s symmetry shape row column value = WritesEntry s (integers symmetr
 abbrev pub HaveIntegerFault : Arithmetic → Symmetry → Extent → List ℕ → List ℕ → List ℕ → Kind → Type 0
 HaveIntegerFault s symmetry shape row column value = HasEntryFault s (integers symmetry) shape (row ∷ column ∷ value ∷ [])
 
+-- a row and a column without a fault write this entry
+abbrev pub PlaceWrites : Arithmetic → Symmetry → Extent → ℕ → ℕ → Entry → Type 0
+PlaceWrites s symmetry shape row column e =
+    (place_fault symmetry shape row column ≡ None) × (e ≡ record { row = row - 1; column = column - 1; value = s.pattern })
+
 -- the fault of the entry of three numbers, a row, a column and a value
 abbrev pub numbers_fault : Arithmetic → Symmetry → Extent → ℕ → ℕ → ℕ → Option Kind
 numbers_fault s symmetry shape row column value =

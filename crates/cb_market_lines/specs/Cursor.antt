@@ -110,14 +110,26 @@ pub record IsShortPlace (text : List ℕ) (row column : ℕ) (rest : List ℕ) (
   pub column_is : IsNumberBefore second 32 column rest
   pub mask : IsMask rest nondigits
 
+-- a line of these words, and the text after it
+pub record IsLine (text : List ℕ) (line_words : List (List ℕ)) (rest : List ℕ) : Type 0 where
+  pub some : 0 < length text
+  pub words_are : words (line_at text) ≡ line_words
+  pub after : after_line text ≡ rest
+
+-- a line of two words that write these numbers, and the text after it
+pub record IsPlainPlace (text : List ℕ) (row column : ℕ) (rest : List ℕ) : Type 0 where
+  pub row_word : List ℕ
+  pub column_word : List ℕ
+  pub line : IsLine text (row_word ∷ column_word ∷ []) rest
+  pub row_is : Writes row_word row
+  pub column_is : Writes column_word column
+
 -- a line of three words that write these numbers, and the text after it
 pub record IsPlainLine (text : List ℕ) (row column value : ℕ) (rest : List ℕ) : Type 0 where
   pub row_word : List ℕ
   pub column_word : List ℕ
   pub value_word : List ℕ
-  pub some : 0 < length text
-  pub words_are : words (line_at text) ≡ row_word ∷ column_word ∷ value_word ∷ []
+  pub line : IsLine text (row_word ∷ column_word ∷ value_word ∷ []) rest
   pub row_is : Writes row_word row
   pub column_is : Writes column_word column
   pub value_is : Writes value_word value
-  pub after : after_line text ≡ rest

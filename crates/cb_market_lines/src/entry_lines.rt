@@ -5,12 +5,12 @@ ghost use Rattle.cb_market_lines.specs.Lines.{is_number, number, past_last, kept
 ghost use Rattle.cb_market_lines.specs.Cursor.{words_at, after_line};
 ghost use Rattle.cb_market_lines.specs.Checks.{is_above, is_on_diagonal, place_in, place_fault, mirrored, negative_of};
 ghost use Rattle.cb_market_lines.specs.Checks.{NamesPlace, WritesEntry, HasEntryFault};
-ghost use Rattle.cb_market_lines.specs.Checks.{WriteInteger, HaveIntegerFault, WritePattern, HavePatternFault, NumbersWrite, numbers_fault};
+ghost use Rattle.cb_market_lines.specs.Checks.{WriteInteger, HaveIntegerFault, WritePattern, HavePatternFault, PlaceWrites, NumbersWrite, numbers_fault};
 ghost use Rattle.cb_market_lines.specs.Faults.{IsNextEntry};
 
 use crate::Kind;
 use crate::header::{Field, Header, Symmetry};
-use crate::plain_lines::plain_line;
+use crate::plain_lines::{plain_line, plain_place};
 use crate::scanner::Scanner;
 use crate::words::Word;
 use cb_matrix::{Entry, Shape};
@@ -91,7 +91,26 @@ fn place_of(
     place_at(symmetry, shape, row, column)
 }
 
-/// Reads the entry of three numbers.
+/// Reads the entry of a row and a column.
+#[inline(always)]
+fn place_entry<S: Semiring>(
+    symmetry: Symmetry,
+    shape: Shape,
+    row: u64,
+    column: u64,
+) -> Result<Entry, Kind>
+    ensures ok { IfOk result (PlaceWrites S.arithmetic symmetry shape row column) }
+    ensures fault { IfErr result (λ k. place_fault symmetry shape row column ≡ Some k) }
+{
+    let (row, column) = place_at(symmetry, shape, row, column)?;
+    Ok(Entry {
+        row,
+        column,
+        value: S::pattern(),
+    })
+}
+
+/// Reads the entry of a row, a column and a value.
 #[inline(always)]
 fn numbers_entry<S: Semiring>(
     symmetry: Symmetry,
@@ -220,7 +239,15 @@ impl<'a> Scanner<'a> {
         ensures none { IfNone result ((self.new.line ≡ self.old.line) × (self.new.rest.now ≡ self.old.rest.now)) }
     {
         match header.field {
-            Field::Pattern => None,
+            Field::Pattern => {
+                let Some(line) = plain_place(self.rest) else {
+                    return None;
+                };
+                self.rest = line.rest;
+                self.line += 1;
+                let found = place_entry::<S>(header.symmetry, shape, line.row, line.column);
+                Some(found)
+            }
             Field::Integer => {
                 let Some(line) = plain_line(self.rest) else {
                     return None;
