@@ -1,3 +1,4 @@
 pub mod Room
+pub mod GrowingMatrices
 pub mod Gathered
 pub mod Pieces

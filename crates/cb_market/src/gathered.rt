@@ -5,6 +5,7 @@ ghost use Rattle.cb_matrix.specs.Sparse.{IsInside};
 ghost use Rattle.cb_matrix.specs.Values.{collected};
 ghost use Rattle.cb_market.specs.Gathered.{place_number, AreSamePlaces};
 
+use crate::growing_matrices::GrowingMatrix;
 use cb_layout::{DistributedMatrix, Grid};
 use cb_matrix::{Entry, Matrix, Shape, in_order};
 use cb_semirings::Semiring;
@@ -16,7 +17,7 @@ use std::thread::Threads;
 /// zero, and otherwise in a list.
 #[derive(Drop)]
 pub struct Gathered<S: Semiring> {
-    blocks: DistributedMatrix<S>,
+    blocks: GrowingMatrix<S>,
     list: Vec<Entry>,
     /// Whether all entries are in the blocks; otherwise all are in the list.
     ascends: bool,
@@ -49,24 +50,21 @@ fn place_number(entry: Entry) -> u64
 /// Copies the entries of a matrix over a grid to a list with room for this many.
 fn in_list<S: Semiring>(
     alloc: Global,
-    blocks: &DistributedMatrix<S>,
+    blocks: &GrowingMatrix<S>,
     room: usize,
 ) -> Result<Vec<Entry>, AllocError>
     ensures entries { IfOk result (λ v. v.items ≡ blocks.now.matrix.entries) }
     ensures inside { IfOk result (λ v. All (IsInside blocks.now.matrix.shape) v.items) }
     ensures values { IfOk result (λ v. All (λ e. IsValue S.arithmetic e.value) v.items) }
 {
-    let matrix = blocks.gather(alloc)?;
-    prove_eq!(matrix.shape(), blocks.shape());
-    let mut list = Vec::with_capacity(alloc, room)?;
-    list.extend_from_slice(matrix.entries())?;
-    Ok(list)
+    let _shape = blocks.shape();
+    blocks.list(alloc, room)
 }
 
 /// The same, with one more entry at the end.
 fn listed<S: Semiring>(
     alloc: Global,
-    blocks: &DistributedMatrix<S>,
+    blocks: &GrowingMatrix<S>,
     room: usize,
     last: Entry,
 ) -> Result<Vec<Entry>, AllocError>
@@ -84,7 +82,7 @@ fn listed<S: Semiring>(
 /// Moves the entries of a matrix over a grid to a list, with one more entry at the end.
 fn move_to_list<S: Semiring>(
     alloc: Global,
-    blocks: &mut DistributedMatrix<S>,
+    blocks: &mut GrowingMatrix<S>,
     room: usize,
     last: Entry,
 ) -> Result<Vec<Entry>, AllocError>
@@ -99,7 +97,7 @@ fn move_to_list<S: Semiring>(
     ensures kept { OnErr result (blocks.new ≡ blocks.old) }
 {
     let list = listed(alloc, blocks, room, last)?;
-    *blocks = DistributedMatrix::with_room(alloc, blocks.grid(), blocks.shape(), 0)?;
+    *blocks = GrowingMatrix::with_room(alloc, blocks.grid(), blocks.shape(), 0)?;
     Ok(list)
 }
 
@@ -108,7 +106,7 @@ impl<S: Semiring> Gathered<S> {
     pub fn start(alloc: Global, grid: Grid, shape: Shape, room: usize) -> Result<Self, AllocError>
         ensures { IfOk result (λ g. g ≡ record { side = grid.side; shape = shape; room = room; entries = [] }) }
     {
-        let blocks = DistributedMatrix::with_room(alloc, grid, shape, room)?;
+        let blocks = GrowingMatrix::with_room(alloc, grid, shape, room)?;
         Ok(Gathered {
             blocks,
             list: Vec::new(alloc),
@@ -159,7 +157,7 @@ impl<S: Semiring> Gathered<S> {
         let mut list = self.into_list(alloc, room)?;
         let others = other.into_list(alloc, 0)?;
         list.extend_from_slice(&others)?;
-        let blocks = DistributedMatrix::with_room(alloc, grid, shape, 0)?;
+        let blocks = GrowingMatrix::with_room(alloc, grid, shape, 0)?;
         Ok(Gathered {
             blocks,
             list,
@@ -209,7 +207,7 @@ impl<S: Semiring> Gathered<S> {
     {
         let shape = self.blocks.shape();
         if self.ascends {
-            return Ok(self.blocks);
+            return self.blocks.into_blocks(alloc);
         }
         let grid = self.blocks.grid();
         let matrix = Matrix::collect(shape, self.list)?;
@@ -240,9 +238,11 @@ impl<S: Semiring + Send + Sync> Gathered<S> {
         prove_eq!(other.blocks.shape(), shape);
         let first = self.first.min(other.first);
         let bound = self.bound.max(other.bound);
-        let blocks = self.blocks.append(rt, other.blocks)?;
+        let own = self.blocks.into_blocks(alloc)?;
+        let others = other.blocks.into_blocks(alloc)?;
+        let blocks = own.append(rt, others)?;
         Ok(Gathered {
-            blocks,
+            blocks: GrowingMatrix::of(blocks),
             list: self.list,
             ascends: true,
             first,

@@ -16,6 +16,7 @@
 
 mod entries;
 mod gathered;
+mod growing_matrices;
 mod openings;
 mod pieces;
 mod whole_texts;

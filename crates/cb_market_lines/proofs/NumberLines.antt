@@ -1,12 +1,11 @@
 -- Lines of numbers with single blanks between them and a line feed at the end.
-use Rattle.std.proofs.Common.{◌≡◌, ℕ, ◌+◌, ◌-◌, ◌<◌, ◌≤◌, ◌^◌, List, [], ◌∷◌, ◌++◌, arith, true, false, length, take, drop, get_or, sym, ap, ◌∙◌, refl, length-append, ⊎_elim}
-use Rattle.std.specs.Prelude.{◌==◌}
+use Rattle.std.proofs.Common.{◌≡◌, ℕ, ◌+◌, ◌-◌, ◌<◌, ◌≤◌, ◌^◌, List, [], ◌∷◌, arith, true, false, length, take, drop, get_or, sym, ap, ◌∙◌, refl, ⊎_elim}
+use Rattle.std.specs.Prelude.{◌==◌, nat_lt}
 use Rattle.std.proofs.lemmas.Bool.Decides.{nat_tests}
-use Rattle.std.proofs.lemmas.List.{take_at, take_rest}
+use Rattle.std.proofs.lemmas.List.{take_rest}
 use Rattle.std.proofs.lemmas.Bool.{cases_Bool}
-use Rattle.cb_market_lines.specs.declared.words.Number.TheVariants.{Whole}
-use Rattle.cb_market_lines.specs.Lines.{lines, words, is_digit, is_number, is_comment, is_skipped, number, number_from, kept_from}
-use Rattle.cb_market_lines.specs.Cursor.{line_at, after_line, is_word_end, after_word, front_digits, after_digits, number_of, IsNumberBefore, IsPlainLine}
+use Rattle.cb_market_lines.specs.Lines.{lines, words, is_digit, is_number, is_comment, is_skipped, is_negative, magnitude, number, number_from, kept_from}
+use Rattle.cb_market_lines.specs.Cursor.{line_at, after_line, is_word_end, after_word, front_digits, after_digits, Writes, IsNumberBefore, IsLine, IsPlainPlace, IsPlainLine}
 use Rattle.std.specs.Prelude.{Result, Ok, Err, IfOk, IfErr, None, Some}
 use Rattle.cb_semirings.specs.Arithmetic.{Arithmetic}
 use Rattle.cb_matrix.specs.declared.Entry.{Entry}
@@ -14,24 +13,12 @@ use Rattle.cb_matrix.specs.Sparse.{Extent}
 use Rattle.cb_market_lines.specs.declared.Kind.{Kind}
 use Rattle.cb_market_lines.specs.declared.header.Header.{Header}
 use Rattle.cb_market_lines.specs.declared.header.Field.{Field}
-use Rattle.cb_market_lines.specs.declared.header.Field.TheVariants.{Integer}
-use Rattle.cb_market_lines.specs.Checks.{entry_fault, entry_of}
+use Rattle.cb_market_lines.specs.declared.header.Symmetry.{Symmetry}
+use Rattle.cb_market_lines.specs.Checks.{entry_fault, entry_of, integers, patterns, place_fault, PlaceWrites, numbers_fault, numbers_entry, NumbersWrite}
 use Rattle.cb_market_lines.specs.Faults.{IsEntryOf, IsNextEntry}
-use Rattle.cb_market_lines.proofs.DigitByDigit.{if_small_fits}
 use Rattle.cb_market_lines.proofs.WordNumbers.{number_magnitude}
 use Rattle.cb_market_lines.proofs.FrontWords.{digit_no_end, after_digits_word, front_digits_word, number_front, ended}
 use Rattle.cb_market_lines.proofs.Cursor.{words_first, words_blank, line_after_word, no_word, line_end_feed, kept_here, lines_more, after_line-lt}
-
-digits_split : (rest : List ℕ) → front_digits rest ++ after_digits rest ≡ rest
-digits_split [] = refl
-digits_split (c ∷ rest) = ⊎_elim (λ e. rw e (ap (λ l. c ∷ l) (digits_split rest))) (λ e. rw e refl) (cases_Bool (is_digit c))
-
--- the slice of the digits at the front
-digits_taken : (text rest : List ℕ) → after_digits text ≡ rest → take (length text - length rest) text ≡ front_digits text
-digits_taken text rest e =
-    let n = length text - length rest in
-    let k : length (front_digits text) ≡ n = omega (arith, ap length (digits_split text), length-append (front_digits text) (after_digits text), ap length e) in
-    ap (take n) (sym (digits_split text)) ∙ take_at (front_digits text) (after_digits text) n k
 
 -- the digits have ended before this byte
 digits_end : (text rest : List ℕ) → 0 < length rest → is_digit (get_or rest 0 0) ≡ false → after_digits rest ≡ after_digits text → after_digits text ≡ rest
@@ -42,99 +29,150 @@ pub first_and_rest : (rest : List ℕ) (c : ℕ) → 0 < length rest → get_or 
 first_and_rest [] c some e = absurd (omega arith)
 first_and_rest (d ∷ after) c some e = ap (λ x. x ∷ after) e
 
--- the word of the digits
-pub short_word : (text rest : List ℕ) (c : ℕ) → 0 < length rest → is_digit (get_or rest 0 0) ≡ false → get_or rest 0 0 ≡ c → after_digits rest ≡ after_digits text → length rest < length text → IsNumberBefore text c (take (length text - length rest) text) (take (length rest - 1) (drop 1 rest))
-short_word text rest c some d e h less =
-    let k = digits_end text rest some d h in
-    let t = digits_taken text rest k in
-    record {
-      number = ap is_number t ∙ number_front text (omega (arith, ap length k));
-      front = sym t;
-      after = k ∙ first_and_rest rest c some e ∙ ap (λ l. c ∷ l) (sym (take_rest rest 1));
-    }
-
 no_digits_front : (rest : List ℕ) → 0 < length rest → is_digit (get_or rest 0 0) ≡ false → front_digits rest ≡ []
 no_digits_front [] some d = refl
 no_digits_front (c ∷ rest) some d = rw d refl
 
--- a word's number, if it is small
-pub small_is : (w : List ℕ) (n : ℕ) → is_number w ≡ true → n < 2 ^ 64 → n ≡ number w → Whole n ≡ number_of w
-small_is w n e small is = let m = number_magnitude w e in rw (m.1, m.0, ← is, if_small_fits n small) refl
-
--- the number of the word
-pub short_is : (text rest : List ℕ) (n : ℕ) → 0 < length rest → is_digit (get_or rest 0 0) ≡ false → after_digits rest ≡ after_digits text → length rest < length text → n < 2 ^ 64 → number_from n (front_digits rest) ≡ number (front_digits text) → Whole n ≡ number_of (take (length text - length rest) text)
-short_is text rest n some d h less small k =
-    let s = short_word text rest (get_or rest 0 0) some d refl h less in
-    small_is (take (length text - length rest) text) n s.number small (sym (ap (number_from n) (no_digits_front rest some d)) ∙ k ∙ ap number s.front)
+-- at the end of the digits, the number so far is the whole number
+pub number_ends : (text rest : List ℕ) (c value : ℕ) → 0 < length rest → is_digit (get_or rest 0 0) ≡ false → get_or rest 0 0 ≡ c → after_digits rest ≡ after_digits text → length rest < length text → number_from value (front_digits rest) ≡ number (front_digits text)
+    → IsNumberBefore text c value (take (length rest - 1) (drop 1 rest))
+number_ends text rest c value some d e h less is =
+    let k = digits_end text rest some d h in
+    record {
+      front = (number_front text (omega (arith, ap length k)), sym is ∙ ap (number_from value) (no_digits_front rest some d));
+      after = k ∙ first_and_rest rest c some e ∙ ap (λ l. c ∷ l) (sym (take_rest rest 1));
+    }
 
 -- no word ends at a digit
 digits_begin : (text : List ℕ) → is_number (front_digits text) ≡ true → (is_word_end text ≡ false) × (0 < length text)
 digits_begin [] e = cc
 digits_begin (c ∷ text) e = ⊎_elim (λ d. (digit_no_end c text d, omega arith)) (λ d. cc (rw d at e)) (cases_Bool (is_digit c))
 
-number_word : (text word rest : List ℕ) (c : ℕ) → is_word_end (c ∷ rest) ≡ true → IsNumberBefore text c word rest → (words (line_at text) ≡ word ∷ words (line_at (c ∷ rest))) × (after_line text ≡ after_line (c ∷ rest))
-number_word text word rest c e h =
-    let begins = digits_begin text (ap is_number h.front ∙ h.number) in
-    let front = front_digits_word text (ap is_word_end h.after ∙ e) ∙ h.front in
+number_word : (text rest : List ℕ) (c value : ℕ) → is_word_end (c ∷ rest) ≡ true → IsNumberBefore text c value rest → (words (line_at text) ≡ front_digits text ∷ words (line_at (c ∷ rest))) × (after_line text ≡ after_line (c ∷ rest))
+number_word text rest c value e h =
+    let begins = digits_begin text h.front.0 in
+    let front = front_digits_word text (ap is_word_end h.after ∙ e) in
     let after = sym (after_digits_word text) ∙ ap after_word h.after ∙ ended (c ∷ rest) e in
-    (words_first text begins.0 ∙ ap (λ w. w ∷ words (line_at (after_word text))) front ∙ ap (λ l. word ∷ words (line_at l)) after, sym (line_after_word text) ∙ ap after_line after)
+    (words_first text begins.0 ∙ ap (λ w. w ∷ words (line_at (after_word text))) front ∙ ap (λ l. front_digits text ∷ words (line_at l)) after, sym (line_after_word text) ∙ ap after_line after)
 
-number_blank : (text word rest : List ℕ) → IsNumberBefore text 32 word rest → (words (line_at text) ≡ word ∷ words (line_at rest)) × (after_line text ≡ after_line rest)
-number_blank text word rest h =
-    let p = number_word text word rest 32 refl h in
-    (p.0 ∙ ap (λ l. word ∷ l) (words_blank 32 rest refl), p.1)
+number_blank : (text rest : List ℕ) (value : ℕ) → IsNumberBefore text 32 value rest → (words (line_at text) ≡ front_digits text ∷ words (line_at rest)) × (after_line text ≡ after_line rest)
+number_blank text rest value h =
+    let p = number_word text rest 32 value refl h in
+    (p.0 ∙ ap (λ l. front_digits text ∷ l) (words_blank 32 rest refl), p.1)
 
 feed_ends : (rest : List ℕ) → is_word_end (10 ∷ rest) ≡ true
 feed_ends rest = line_end_feed 10 rest refl
 
-number_feed : (text word rest : List ℕ) → IsNumberBefore text 10 word rest → (words (line_at text) ≡ word ∷ []) × (after_line text ≡ rest)
-number_feed text word rest h =
-    let p = number_word text word rest 10 (feed_ends rest) h in
-    (p.0 ∙ ap (λ l. word ∷ l) (no_word (10 ∷ rest) (line_end_feed 10 rest refl)), p.1)
+number_feed : (text rest : List ℕ) (value : ℕ) → IsNumberBefore text 10 value rest → (words (line_at text) ≡ front_digits text ∷ []) × (after_line text ≡ rest)
+number_feed text rest value h =
+    let p = number_word text rest 10 value (feed_ends rest) h in
+    (p.0 ∙ ap (λ l. front_digits text ∷ l) (no_word (10 ∷ rest) (line_end_feed 10 rest refl)), p.1)
+
+-- two consecutive numbers
+pub place_is : (text second : List ℕ) (row column : ℕ) (rest : List ℕ) → IsNumberBefore text 32 row second → IsNumberBefore second 10 column rest → IsPlainPlace text row column rest
+place_is text second row column rest a b =
+    let p = number_blank text second row a in
+    let q = number_feed second rest column b in
+    record {
+      row_word = front_digits text;
+      column_word = front_digits second;
+      line = record {
+        some = (digits_begin text a.front.0).1;
+        words_are = p.0 ∙ ap (λ l. front_digits text ∷ l) q.0;
+        after = p.1 ∙ q.1;
+      };
+      row_is = a.front;
+      column_is = b.front;
+    }
 
 -- three consecutive numbers
-pub plain_is : (text second third row column value rest : List ℕ) → IsNumberBefore text 32 row second → IsNumberBefore second 32 column third → IsNumberBefore third 10 value rest → IsPlainLine text row column value rest
+pub plain_is : (text second third : List ℕ) (row column value : ℕ) (rest : List ℕ) → IsNumberBefore text 32 row second → IsNumberBefore second 32 column third → IsNumberBefore third 10 value rest → IsPlainLine text row column value rest
 plain_is text second third row column value rest a b c =
-    let p = number_blank text row second a in
-    let q = number_blank second column third b in
-    let r = number_feed third value rest c in
+    let p = number_blank text second row a in
+    let q = number_blank second third column b in
+    let r = number_feed third rest value c in
     record {
-      some = (digits_begin text (ap is_number a.front ∙ a.number)).1;
-      number = a.number;
-      words_are = p.0 ∙ ap (λ l. row ∷ l) (q.0 ∙ ap (λ l. column ∷ l) r.0);
-      after = p.1 ∙ q.1 ∙ r.1;
+      row_word = front_digits text;
+      column_word = front_digits second;
+      value_word = front_digits third;
+      line = record {
+        some = (digits_begin text a.front.0).1;
+        words_are = p.0 ∙ ap (λ l. front_digits text ∷ l) (q.0 ∙ ap (λ l. front_digits second ∷ l) r.0);
+        after = p.1 ∙ q.1 ∙ r.1;
+      };
+      row_is = a.front;
+      column_is = b.front;
+      value_is = c.front;
     }
 
 no_comment : (w : List ℕ) → is_number w ≡ true → is_comment w ≡ false
 no_comment [] e = cc
 no_comment (c ∷ w) e = ⊎_elim (λ (a : (c == 37) ≡ true). let d : is_digit c ≡ false = grind (arith, nat_tests) in cc (rw d at e)) (λ (a : (c == 37) ≡ false). a) (cases_Bool (c == 37))
 
--- the line of three numbers isn't skipped
-plain_kept : (n : ℕ) (text row column value rest : List ℕ) → IsPlainLine text row column value rest → kept_from n text ≡ (n, row ∷ column ∷ value ∷ []) ∷ kept_from (n + 1) rest
-plain_kept n text row column value rest h =
-    let k = kept_here n text h.some (ap is_skipped h.words_are ∙ no_comment row h.number) in
-    k ∙ ap (λ ws. (n, ws) ∷ kept_from (n + 1) (after_line text)) h.words_are ∙ ap (λ l. (n, row ∷ column ∷ value ∷ []) ∷ kept_from (n + 1) l) h.after
+-- a line that begins with a number isn't skipped
+line_kept : (n : ℕ) (text w : List ℕ) (ws : List (List ℕ)) (rest : List ℕ) → IsLine text (w ∷ ws) rest → is_number w ≡ true → kept_from n text ≡ (n, w ∷ ws) ∷ kept_from (n + 1) rest
+line_kept n text w ws rest h e =
+    let k = kept_here n text h.some (ap is_skipped h.words_are ∙ no_comment w e) in
+    k ∙ ap (λ l. (n, l) ∷ kept_from (n + 1) (after_line text)) h.words_are ∙ ap (λ l. (n, w ∷ ws) ∷ kept_from (n + 1) l) h.after
 
 -- one line less is left
-pub plain_lines : (text row column value rest : List ℕ) → IsPlainLine text row column value rest → length (lines text) ≡ 1 + length (lines rest)
-plain_lines text row column value rest h = lines_more text h.some ∙ ap (λ l. 1 + length (lines l)) h.after
+pub line_fewer : (text : List ℕ) (ws : List (List ℕ)) (rest : List ℕ) → IsLine text ws rest → length (lines text) ≡ 1 + length (lines rest)
+line_fewer text ws rest h = lines_more text h.some ∙ ap (λ l. 1 + length (lines l)) h.after
 
 -- the entry of a line, or its fault
 pub entry_found : (s : Arithmetic) (header : Header) (shape : Extent) (ws : List (List ℕ)) (found : Result Entry Kind) → IfOk found (λ e. (entry_fault s header shape ws ≡ None) × (e ≡ entry_of s header ws)) → IfErr found (λ k. entry_fault s header shape ws ≡ Some k) → IsEntryOf s header shape ws found
 entry_found s header shape ws (Ok e) a b = a
 entry_found s header shape ws (Err k) a b = b
 
--- a header of whole numbers
-pub integer_header : (header : Header) → header.field ≡ Integer → record { field = Integer; symmetry = header.symmetry } ≡ header
-integer_header header e = ap (λ (f : Field). let h : Header = record { field = f; symmetry = header.symmetry } in h) (sym e)
+-- the header of a field
+pub field_header : (header : Header) (field : Field) → header.field ≡ field → record { field = field; symmetry = header.symmetry } ≡ header
+field_header header field e = ap (λ (f : Field). let h : Header = record { field = f; symmetry = header.symmetry } in h) (sym e)
 
--- the next entry, if its line is plain
-pub plain_next : (s : Arithmetic) (header : Header) (shape : Extent) (n : ℕ) (text row column value rest : List ℕ) (found : Result Entry Kind) → IsPlainLine text row column value rest → IsEntryOf s header shape (row ∷ column ∷ value ∷ []) found → IsNextEntry s header shape n text n found rest
-plain_next s header shape n text row column value rest found h k = record {
-  line_words = row ∷ column ∷ value ∷ [];
-  kept = plain_kept n text row column value rest h;
+-- digits have no sign
+no_minus : (w : List ℕ) → is_number w ≡ true → is_negative w ≡ false
+no_minus [] e = refl
+no_minus (c ∷ w) e = ⊎_elim (λ (a : (c == 45) ≡ true). let d : is_digit c ≡ false = grind (arith, nat_tests) in cc (rw d at e)) (λ (a : (c == 45) ≡ false). a) (cases_Bool (c == 45))
+
+module _ (s : Arithmetic) (symmetry : Symmetry) (shape : Extent) where
+  -- words have the fault of the numbers that they write
+  numbers_faulty : (first second third : List ℕ) (row column value : ℕ) → Writes first row → Writes second column → Writes third value → value < 2 ^ 64 → entry_fault s (integers symmetry) shape (first ∷ second ∷ third ∷ []) ≡ numbers_fault s symmetry shape row column value
+  numbers_faulty first second third row column value a b c small =
+      let m = number_magnitude third c.0 in
+      let is : magnitude third ≡ value = m.0 ∙ c.1 in
+      let fits : nat_lt value (2 ^ 64) ≡ true = grind (arith, nat_tests) in
+      rw (a.0, b.0, m.1, a.1, b.1, is, no_minus third c.0, fits) refl
+
+  -- and write their entry
+  numbers_written : (first second third : List ℕ) (row column value : ℕ) → Writes first row → Writes second column → Writes third value → value < 2 ^ 64 → entry_of s (integers symmetry) (first ∷ second ∷ third ∷ []) ≡ numbers_entry s row column value
+  numbers_written first second third row column value a b c small =
+      let is : magnitude third ≡ value = (number_magnitude third c.0).0 ∙ c.1 in
+      let fits : nat_lt value (2 ^ 64) ≡ true = grind (arith, nat_tests) in
+      rw (a.1, b.1, is, no_minus third c.0, fits) refl
+
+  -- the entry of a plain line, or its fault
+  pub plain_found : (text : List ℕ) (row column value : ℕ) (rest : List ℕ) (h : IsPlainLine text row column value rest) (found : Result Entry Kind) → value < 2 ^ 64
+      → IfOk found (NumbersWrite s symmetry shape row column value) → IfErr found (λ k. numbers_fault s symmetry shape row column value ≡ Some k) → IsEntryOf s (integers symmetry) shape (h.row_word ∷ h.column_word ∷ h.value_word ∷ []) found
+  plain_found text row column value rest h (Ok e) small ok fault =
+      (numbers_faulty h.row_word h.column_word h.value_word row column value h.row_is h.column_is h.value_is small ∙ ok.0, ok.1 ∙ sym (numbers_written h.row_word h.column_word h.value_word row column value h.row_is h.column_is h.value_is small))
+  plain_found text row column value rest h (Err k) small ok fault = numbers_faulty h.row_word h.column_word h.value_word row column value h.row_is h.column_is h.value_is small ∙ fault
+
+  -- two words have the fault of the place that they write
+  place_faulty : (first second : List ℕ) (row column : ℕ) → Writes first row → Writes second column → entry_fault s (patterns symmetry) shape (first ∷ second ∷ []) ≡ place_fault symmetry shape row column
+  place_faulty first second row column a b = rw (a.0, b.0, a.1, b.1) refl
+
+  -- the entry of a plain line without a value, or its fault
+  pub place_found : (text : List ℕ) (row column : ℕ) (rest : List ℕ) (h : IsPlainPlace text row column rest) (found : Result Entry Kind)
+      → IfOk found (PlaceWrites s symmetry shape row column) → IfErr found (λ k. place_fault symmetry shape row column ≡ Some k) → IsEntryOf s (patterns symmetry) shape (h.row_word ∷ h.column_word ∷ []) found
+  place_found text row column rest h (Ok e) ok fault = (place_faulty h.row_word h.column_word row column h.row_is h.column_is ∙ ok.0, rw (h.row_is.1, h.column_is.1) ok.1)
+  place_found text row column rest h (Err k) ok fault = place_faulty h.row_word h.column_word row column h.row_is h.column_is ∙ fault
+
+-- the next entry, if its line begins with a number
+pub line_next : (s : Arithmetic) (header : Header) (shape : Extent) (n : ℕ) (text w : List ℕ) (ws : List (List ℕ)) (rest : List ℕ) (found : Result Entry Kind) → IsLine text (w ∷ ws) rest → is_number w ≡ true → IsEntryOf s header shape (w ∷ ws) found → IsNextEntry s header shape n text n found rest
+line_next s header shape n text w ws rest found h e k = record {
+  line_words = w ∷ ws;
+  kept = line_kept n text w ws rest h e;
   found_is = k;
-  count = omega (arith, plain_lines text row column value rest h);
+  count = omega (arith, line_fewer text (w ∷ ws) rest h);
   later = omega arith;
   shorter = omega (arith, ap length h.after, after_line-lt text h.some);
 }

@@ -18,11 +18,10 @@ use Rattle.core.specs.Int.Digits.{number_from_digits}
 use Rattle.core.specs.Slice.Scan.{little_endian}
 use Rattle.core.proofs.dec2flt.DigitsLemmas.{every_below, digit_range, is_digit as digit_is}
 use Rattle.core.proofs.dec2flt.Eight.{eight_at, word_at, lanes_are, shifted_is}
-use Rattle.cb_market_lines.specs.declared.words.Number.TheVariants.{Whole}
 use Rattle.cb_market_lines.specs.Lines.{is_digit, is_number, number, number_from}
-use Rattle.cb_market_lines.specs.Cursor.{front_digits, after_digits, number_of, nondigits_of, IsMask, IsShortNumber}
+use Rattle.cb_market_lines.specs.Cursor.{front_digits, after_digits, nondigits_of, IsMask, IsShortNumber}
 use Rattle.cb_market_lines.proofs.FrontWords.{number_front, after_digits-le}
-use Rattle.cb_market_lines.proofs.NumberLines.{first_and_rest, small_is}
+use Rattle.cb_market_lines.proofs.NumberLines.{first_and_rest}
 
 abbrev is_nondigit : ℕ → Bool
 is_nondigit c = not (is_digit c)
@@ -142,7 +141,7 @@ word_number text count word value fits room some few is worth counted =
     let front : take count xs ≡ front_digits text = ap (λ n. take n xs) long ∙ front_taken xs ∙ whole in
     worth s.0 s.1 s.2 ∙ s.3 ∙ ap (digits_value 10) front ∙ value_is text 0
 
--- ---- the word and what comes after it
+-- ---- the number and what comes after it
 
 front_dropped : (xs : List ℕ) → drop (length (front_digits xs)) xs ≡ after_digits xs
 front_dropped [] = refl
@@ -152,23 +151,14 @@ fewer_after : (xs : List ℕ) → 0 < length (front_digits xs) → length (after
 fewer_after [] some = absurd (omega arith)
 fewer_after (c ∷ xs) some = ⊎_elim (λ (e : is_digit c ≡ true). rw e (omega (arith, after_digits-le xs))) (λ (e : is_digit c ≡ false). absurd (let k = rw e at some in omega (arith, k))) (cases_Bool (is_digit c))
 
-word_is : (text word : List ℕ) (count : ℕ) → word ≡ take count text → count ≡ length (front_digits text) → word ≡ front_digits text
-word_is text word count front counted = front ∙ ap (λ n. take n text) counted ∙ front_taken text
+digits_begin : (text : List ℕ) → 0 < length (front_digits text) → is_number (front_digits text) ≡ true
+digits_begin text some = number_front text (fewer_after text some)
 
-is_number_word : (text word : List ℕ) (count : ℕ) → word ≡ take count text → count ≡ length (front_digits text) → 0 < count → is_number word ≡ true
-is_number_word text word count front counted some = ap is_number (word_is text word count front counted) ∙ number_front text (fewer_after text (omega (arith, counted)))
-
--- the word's number
-pub number_is : (text word : List ℕ) (count value : ℕ) → word ≡ take count text → count ≡ length (front_digits text) → 0 < count → value < 2 ^ 64 → value ≡ number (front_digits text) → Whole value ≡ number_of word
-number_is text word count value front counted some small is =
-    small_is word value (is_number_word text word count front counted some) small (is ∙ ap number (sym (word_is text word count front counted)))
-
-pub short_number_is : (text word after : List ℕ) (nondigits count end : ℕ) → IsMask text nondigits → count ≡ length (front_digits text) → 0 < count → word ≡ take count text → after ≡ drop count text → 0 < length after → get_or after 0 0 ≡ end
-    → IsShortNumber text end word (take (length after - 1) (drop 1 after)) (nondigits / 2 ^ count / 2)
-short_number_is text word after nondigits count end m counted some front back more e = record {
+pub short_number_is : (text after : List ℕ) (nondigits count end value : ℕ) → IsMask text nondigits → count ≡ length (front_digits text) → 0 < count → after ≡ drop count text → 0 < length after → get_or after 0 0 ≡ end → value ≡ number (front_digits text)
+    → IsShortNumber text end value (take (length after - 1) (drop 1 after)) (nondigits / 2 ^ count / 2)
+short_number_is text after nondigits count end value m counted some back more e is = record {
   before = record {
-    number = is_number_word text word count front counted some;
-    front = sym (word_is text word count front counted);
+    front = (digits_begin text (omega (arith, counted)), sym is);
     after = sym (front_dropped text) ∙ ap (λ n. drop n text) (sym counted) ∙ sym back ∙ first_and_rest after end more e ∙ ap (λ l. end ∷ l) (sym (take_rest after 1));
   };
   mask = mask_after text after (take (length after - 1) (drop 1 after)) count nondigits back (take_rest after 1) m;

@@ -1,13 +1,13 @@
 -- A word's number and its bytes.
-use Rattle.std.proofs.Common.{◌≡◌, ℕ, ◌<◌, ◌^◌, None, List, [], ◌∷◌, arith, true, false, Bool, sym, ap, ◌∙◌, refl, ⊎_elim, nat_lt}
+use Rattle.std.proofs.Common.{◌≡◌, ℕ, ◌<◌, ◌^◌, Some, None, List, [], ◌∷◌, arith, true, false, Bool, sym, ap, ◌∙◌, refl, ⊎_elim, nat_lt}
 use Rattle.std.specs.Prelude.{◌==◌, ◌||◌}
 use Rattle.std.proofs.lemmas.Bool.Decides.{nat_tests}
 use Rattle.std.proofs.lemmas.Bool.{cases_Bool}
 use Rattle.cb_market_lines.specs.declared.words.Number.{Number}
 use Rattle.cb_market_lines.specs.declared.words.Number.TheVariants.{NotWhole, TooLarge, Whole}
 use Rattle.cb_market_lines.specs.Lines.{is_digit, is_number, is_value_word, is_negative, magnitude, number}
-use Rattle.cb_market_lines.specs.Cursor.{number_of}
-use Rattle.cb_market_lines.specs.Checks.{place_in, small_in, value_in}
+use Rattle.cb_market_lines.specs.Cursor.{if_small, number_of}
+use Rattle.cb_market_lines.specs.Checks.{small_in, value_in}
 use Rattle.cb_semirings.specs.Arithmetic.{Arithmetic}
 
 -- by cases: digits or not, below 2^64 or not
@@ -39,18 +39,18 @@ number_magnitude [] e = cc
 number_magnitude (c ∷ w) e =
     ⊎_elim (λ (f : ((c == 43) || (c == 45)) ≡ true). cc (sym e ∙ signed_number c w f)) (λ (f : ((c == 43) || (c == 45)) ≡ false). let g = sym (plain_number c w f) ∙ e in let h : magnitude (c ∷ w) ≡ number (c ∷ w) = rw f refl in (h, g)) (cases_Bool ((c == 43) || (c == 45)))
 
-too_far : (limit n : ℕ) → limit < 2 ^ 64 → nat_lt n (2 ^ 64) ≡ false → place_in limit n ≡ None
-too_far limit n h e = grind (arith, nat_tests)
+-- the number of a word below 2^64
+pub whole_some : (w : List ℕ) (n : Number) (x : ℕ) → n ≡ number_of w → n ≡ Whole x → is_number w ≡ true → Some x ≡ if_small (number w)
+whole_some w n x e f g =
+    let h = whole w n x e f in
+    let m = (number_magnitude w g).0 in
+    rw (← m, h.1, h.2) refl
 
--- the place of a word, by its number
-pub place_whole : (w : List ℕ) (n : Number) (x limit : ℕ) → n ≡ number_of w → n ≡ Whole x → is_number w ≡ true → place_in limit x ≡ place_in limit (number w)
-place_whole w n x limit e f g = ap (place_in limit) ((whole w n x e f).2 ∙ (number_magnitude w g).0)
-
--- a number of more than 64 bits names no place within a limit
-pub place_none : (w : List ℕ) (n : Number) (limit : ℕ) → limit < 2 ^ 64 → n ≡ number_of w → ((x : ℕ) → n ≡ Whole x → ⊥) → is_number w ≡ true → None ≡ place_in limit (number w)
-place_none w n limit l e f g =
+-- or not
+pub whole_none : (w : List ℕ) (n : Number) → n ≡ number_of w → ((x : ℕ) → n ≡ Whole x → ⊥) → is_number w ≡ true → None ≡ if_small (number w)
+whole_none w n e f g =
     let m = number_magnitude w g in
-    sym (too_far limit (number w) l (rw m.0 at (not_small w n e f m.1)))
+    rw (← m.0, not_small w n e f m.1) refl
 
 -- the value of a word, by its number
 pub value_whole : (s : Arithmetic) (w : List ℕ) (n : Number) (x : ℕ) → n ≡ number_of w → n ≡ Whole x → s.accept (is_negative w) x ≡ value_in s w

@@ -217,6 +217,29 @@ WriteInteger s symmetry shape row column value = WritesEntry s (integers symmetr
 abbrev pub HaveIntegerFault : Arithmetic → Symmetry → Extent → List ℕ → List ℕ → List ℕ → Kind → Type 0
 HaveIntegerFault s symmetry shape row column value = HasEntryFault s (integers symmetry) shape (row ∷ column ∷ value ∷ [])
 
+-- a row and a column without a fault write this entry
+abbrev pub PlaceWrites : Arithmetic → Symmetry → Extent → ℕ → ℕ → Entry → Type 0
+PlaceWrites s symmetry shape row column e =
+    (place_fault symmetry shape row column ≡ None) × (e ≡ record { row = row - 1; column = column - 1; value = s.pattern })
+
+-- the fault of the entry of three numbers, a row, a column and a value
+abbrev pub numbers_fault : Arithmetic → Symmetry → Extent → ℕ → ℕ → ℕ → Option Kind
+numbers_fault s symmetry shape row column value =
+    first_failed (
+    (is_within shape.rows row && is_within shape.cols column, IndexRange)
+    ∷ (not (is_above symmetry row column), AboveDiagonal)
+    ∷ (not (is_on_diagonal symmetry row column), OnDiagonal)
+    ∷ (is_some (s.accept false value), ValueRange)
+    ∷ [])
+
+-- the entry of three numbers
+abbrev pub numbers_entry : Arithmetic → ℕ → ℕ → ℕ → Entry
+numbers_entry s row column value = record { row = row - 1; column = column - 1; value = unwrap_or (s.accept false value) s.zero }
+
+-- three numbers without a fault write this entry
+abbrev pub NumbersWrite : Arithmetic → Symmetry → Extent → ℕ → ℕ → ℕ → Entry → Type 0
+NumbersWrite s symmetry shape row column value e = (numbers_fault s symmetry shape row column value ≡ None) × (e ≡ numbers_entry s row column value)
+
 -- these words, a row and a column, write this entry
 abbrev pub WritePattern : Arithmetic → Symmetry → Extent → List ℕ → List ℕ → Entry → Type 0
 WritePattern s symmetry shape row column = WritesEntry s (patterns symmetry) shape (row ∷ column ∷ [])

@@ -3,7 +3,7 @@ use lib.Lanes.{mask_l}
 use Rattle.std.specs.Prelude.{◌≡◌, ℕ, ◌+◌, ◌^◌, ◌<◌, ◌≤◌, Bool, true, cond, not, ◌&&◌, ◌||◌, ◌==◌, nat_lt, List, [], ◌∷◌, length, map, take, Option, Some, None}
 use Rattle.cb_market_lines.specs.declared.words.Number.{Number}
 use Rattle.cb_market_lines.specs.declared.words.Number.TheVariants.{NotWhole, TooLarge, Whole}
-use Rattle.cb_market_lines.specs.Lines.{is_digit, is_number, is_blank, is_value_word, magnitude, words, kept_from}
+use Rattle.cb_market_lines.specs.Lines.{is_digit, is_number, is_blank, is_value_word, magnitude, number, words, kept_from}
 
 -- whether a line ends here: at the end of the text or a line feed, or at a carriage return before either
 abbrev pub is_line_end : List ℕ → Bool
@@ -79,10 +79,13 @@ abbrev pub after_sign : List ℕ → List ℕ
 after_sign [] = []
 after_sign (c ∷ rest) = cond ((c == 43) || (c == 45)) rest (c ∷ rest)
 
+-- a word of digits alone that writes this number
+abbrev pub Writes : List ℕ → ℕ → Type 0
+Writes word n = (is_number word ≡ true) × (number word ≡ n)
+
 -- a number of digits at the front, the byte that follows it, and what comes after that byte
-pub record IsNumberBefore (text : List ℕ) (end : ℕ) (word rest : List ℕ) : Type 0 where
-  pub number : is_number word ≡ true
-  pub front : front_digits text ≡ word
+pub record IsNumberBefore (text : List ℕ) (end value : ℕ) (rest : List ℕ) : Type 0 where
+  pub front : Writes (front_digits text) value
   pub after : after_digits text ≡ end ∷ rest
 
 -- a bit for each of these bytes, the first byte's the lowest, set if the byte isn't a digit
@@ -96,20 +99,37 @@ pub record IsMask (text : List ℕ) (nondigits : ℕ) : Type 0 where
   pub bits : nondigits ≡ nondigits_of (take masked text)
 
 -- a number of digits at the front and the byte that follows it, and the rest of the text with its mask
-pub record IsShortNumber (text : List ℕ) (end : ℕ) (word rest : List ℕ) (nondigits : ℕ) : Type 0 where
-  pub before : IsNumberBefore text end word rest
+pub record IsShortNumber (text : List ℕ) (end value : ℕ) (rest : List ℕ) (nondigits : ℕ) : Type 0 where
+  pub before : IsNumberBefore text end value rest
   pub mask : IsMask rest nondigits
 
 -- a row and a column at the front, each with a space after it, and the rest of the text with its mask
-pub record IsShortPlace (text row column rest : List ℕ) (nondigits : ℕ) : Type 0 where
+pub record IsShortPlace (text : List ℕ) (row column : ℕ) (rest : List ℕ) (nondigits : ℕ) : Type 0 where
   pub second : List ℕ
   pub row_is : IsNumberBefore text 32 row second
   pub column_is : IsNumberBefore second 32 column rest
   pub mask : IsMask rest nondigits
 
--- a line of three words, of which the first is a number, and the text after it
-pub record IsPlainLine (text row column value rest : List ℕ) : Type 0 where
+-- a line of these words, and the text after it
+pub record IsLine (text : List ℕ) (line_words : List (List ℕ)) (rest : List ℕ) : Type 0 where
   pub some : 0 < length text
-  pub number : is_number row ≡ true
-  pub words_are : words (line_at text) ≡ row ∷ column ∷ value ∷ []
+  pub words_are : words (line_at text) ≡ line_words
   pub after : after_line text ≡ rest
+
+-- a line of two words that write these numbers, and the text after it
+pub record IsPlainPlace (text : List ℕ) (row column : ℕ) (rest : List ℕ) : Type 0 where
+  pub row_word : List ℕ
+  pub column_word : List ℕ
+  pub line : IsLine text (row_word ∷ column_word ∷ []) rest
+  pub row_is : Writes row_word row
+  pub column_is : Writes column_word column
+
+-- a line of three words that write these numbers, and the text after it
+pub record IsPlainLine (text : List ℕ) (row column value : ℕ) (rest : List ℕ) : Type 0 where
+  pub row_word : List ℕ
+  pub column_word : List ℕ
+  pub value_word : List ℕ
+  pub line : IsLine text (row_word ∷ column_word ∷ value_word ∷ []) rest
+  pub row_is : Writes row_word row
+  pub column_is : Writes column_word column
+  pub value_is : Writes value_word value

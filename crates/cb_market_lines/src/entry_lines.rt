@@ -3,14 +3,14 @@ ghost use Rattle.std.specs.Prelude.{◌≡◌, ◌+◌, ◌^◌, ◌<◌, IsTrue
 ghost use Rattle.cb_semirings.specs.Arithmetic.{IsValue};
 ghost use Rattle.cb_market_lines.specs.Lines.{is_number, number, past_last, kept_from};
 ghost use Rattle.cb_market_lines.specs.Cursor.{words_at, after_line};
-ghost use Rattle.cb_market_lines.specs.Checks.{is_above, is_on_diagonal, place_fault, mirrored, negative_of};
+ghost use Rattle.cb_market_lines.specs.Checks.{is_above, is_on_diagonal, place_in, place_fault, mirrored, negative_of};
 ghost use Rattle.cb_market_lines.specs.Checks.{NamesPlace, WritesEntry, HasEntryFault};
-ghost use Rattle.cb_market_lines.specs.Checks.{WriteInteger, HaveIntegerFault, WritePattern, HavePatternFault};
+ghost use Rattle.cb_market_lines.specs.Checks.{WriteInteger, HaveIntegerFault, WritePattern, HavePatternFault, PlaceWrites, NumbersWrite, numbers_fault};
 ghost use Rattle.cb_market_lines.specs.Faults.{IsNextEntry};
 
 use crate::Kind;
 use crate::header::{Field, Header, Symmetry};
-use crate::plain_lines::plain_line;
+use crate::plain_lines::{plain_line, plain_place};
 use crate::scanner::Scanner;
 use crate::words::Word;
 use cb_matrix::{Entry, Shape};
@@ -38,23 +38,27 @@ fn is_on_diagonal(symmetry: Symmetry, row: u32, column: u32) -> bool
     }
 }
 
-/// Reads the place of an entry from words that are numbers.
-#[inline(always)]
-fn place_of(
-    symmetry: Symmetry,
-    shape: Shape,
-    row: &Word<'_>,
-    column: &Word<'_>,
-) -> Result<(u32, u32), Kind>
-    requires row { IsTrue (is_number row.now.bytes.now) }
-    requires column { IsTrue (is_number column.now.bytes.now) }
-    ensures ok { IfOk result (NamesPlace symmetry shape (number row.now.bytes.now) (number column.now.bytes.now)) }
-    ensures fault { IfErr result (λ k. place_fault symmetry shape (number row.now.bytes.now) (number column.now.bytes.now) ≡ Some k) }
+/// Returns the place that a number names, counted from 0, if it is below the limit.
+fn place_in(limit: u32, number: u64) -> Option<u32>
+    ensures { result ≡ place_in limit number }
 {
-    let Some(row) = row.place(shape.rows()) else {
+    if 1 <= number && number <= limit as u64 {
+        Some((number - 1) as u32)
+    } else {
+        None
+    }
+}
+
+/// Returns the place of an entry, given its row and its column, counted from 1.
+#[inline(always)]
+fn place_at(symmetry: Symmetry, shape: Shape, row: u64, column: u64) -> Result<(u32, u32), Kind>
+    ensures ok { IfOk result (NamesPlace symmetry shape row column) }
+    ensures fault { IfErr result (λ k. place_fault symmetry shape row column ≡ Some k) }
+{
+    let Some(row) = place_in(shape.rows(), row) else {
         return Err(Kind::IndexRange);
     };
-    let Some(column) = column.place(shape.cols()) else {
+    let Some(column) = place_in(shape.cols(), column) else {
         return Err(Kind::IndexRange);
     };
     if is_above(symmetry, row, column) {
@@ -66,8 +70,66 @@ fn place_of(
     Ok((row, column))
 }
 
-/// Reads the entry that three words write.
+/// Reads the place of an entry from words that are numbers.
+fn place_of(
+    symmetry: Symmetry,
+    shape: Shape,
+    row: &Word<'_>,
+    column: &Word<'_>,
+) -> Result<(u32, u32), Kind>
+    requires row { IsTrue (is_number row.now.bytes.now) }
+    requires column { IsTrue (is_number column.now.bytes.now) }
+    ensures ok { IfOk result (NamesPlace symmetry shape (number row.now.bytes.now) (number column.now.bytes.now)) }
+    ensures fault { IfErr result (λ k. place_fault symmetry shape (number row.now.bytes.now) (number column.now.bytes.now) ≡ Some k) }
+{
+    let Some(row) = row.whole() else {
+        return Err(Kind::IndexRange);
+    };
+    let Some(column) = column.whole() else {
+        return Err(Kind::IndexRange);
+    };
+    place_at(symmetry, shape, row, column)
+}
+
+/// Reads the entry of a row and a column.
 #[inline(always)]
+fn place_entry<S: Semiring>(
+    symmetry: Symmetry,
+    shape: Shape,
+    row: u64,
+    column: u64,
+) -> Result<Entry, Kind>
+    ensures ok { IfOk result (PlaceWrites S.arithmetic symmetry shape row column) }
+    ensures fault { IfErr result (λ k. place_fault symmetry shape row column ≡ Some k) }
+{
+    let (row, column) = place_at(symmetry, shape, row, column)?;
+    Ok(Entry {
+        row,
+        column,
+        value: S::pattern(),
+    })
+}
+
+/// Reads the entry of a row, a column and a value.
+#[inline(always)]
+fn numbers_entry<S: Semiring>(
+    symmetry: Symmetry,
+    shape: Shape,
+    row: u64,
+    column: u64,
+    value: u64,
+) -> Result<Entry, Kind>
+    ensures ok { IfOk result (NumbersWrite S.arithmetic symmetry shape row column value) }
+    ensures fault { IfErr result (λ k. numbers_fault S.arithmetic symmetry shape row column value ≡ Some k) }
+{
+    let (row, column) = place_at(symmetry, shape, row, column)?;
+    let Some(value) = S::accept(false, value) else {
+        return Err(Kind::ValueRange);
+    };
+    Ok(Entry { row, column, value })
+}
+
+/// Reads the entry that three words write.
 fn integer_entry<S: Semiring>(
     symmetry: Symmetry,
     shape: Shape,
@@ -177,19 +239,27 @@ impl<'a> Scanner<'a> {
         ensures none { IfNone result ((self.new.line ≡ self.old.line) × (self.new.rest.now ≡ self.old.rest.now)) }
     {
         match header.field {
-            Field::Pattern => None,
+            Field::Pattern => {
+                let Some(line) = plain_place(self.rest) else {
+                    return None;
+                };
+                self.rest = line.rest;
+                self.line += 1;
+                let found = place_entry::<S>(header.symmetry, shape, line.row, line.column);
+                Some(found)
+            }
             Field::Integer => {
                 let Some(line) = plain_line(self.rest) else {
                     return None;
                 };
                 self.rest = line.rest;
                 self.line += 1;
-                let found = integer_entry::<S>(
+                let found = numbers_entry::<S>(
                     header.symmetry,
                     shape,
-                    &line.row,
-                    &line.column,
-                    &line.value,
+                    line.row,
+                    line.column,
+                    line.value,
                 );
                 Some(found)
             }

@@ -10,7 +10,6 @@ ghost use lib.Lanes.{number_l};
 ghost use Rattle.cb_market_lines.specs.Lines.{number};
 ghost use Rattle.cb_market_lines.specs.Cursor.{front_digits, nondigits_of, IsMask, IsShortNumber};
 
-use crate::words::{Number, Word};
 use std::simd::prelude::*;
 
 /// The byte '0' eight times.
@@ -82,29 +81,26 @@ impl<'a> Masked<'a> {
     /// Returns the number at the front and the text after it, if it has at most eight digits and is followed by this byte.
     /// None also if its last byte isn't masked, or if fewer than eight bytes are left.
     #[inline(always)]
-    pub fn short_number(&self, end: u8) -> Option<(Word<'a>, Masked<'a>)>
+    pub fn short_number(&self, end: u8) -> Option<(u64, Masked<'a>)>
         requires { IsMask self.now.text.now self.now.nondigits }
-        ensures { IfSome result (λ p. IsShortNumber self.now.text.now end p.0.bytes.now p.1.text.now p.1.nondigits) }
+        ensures { IfSome result (λ p. IsShortNumber self.now.text.now end p.0 p.1.text.now p.1.nondigits) }
     {
         let count = self.nondigits.trailing_zeros() as usize;
         if count == 0 || count > 8 || self.text.len() < 8 {
             return None;
         }
-        let (digits, after) = self.text.split_at(count);
+        let (_digits, after) = self.text.split_at(count);
         let [byte, rest @ ..] = after else {
             return None;
         };
         if *byte != end {
             return None;
         }
-        let word = Word {
-            bytes: digits,
-            number: Number::Whole(number_of_length(self.text, count)),
-        };
+        let number = number_of_length(self.text, count);
         let rest = Masked {
             text: rest,
             nondigits: self.nondigits >> count >> 1,
         };
-        Some((word, rest))
+        Some((number, rest))
     }
 }

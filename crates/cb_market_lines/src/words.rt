@@ -2,7 +2,7 @@
 ghost use Rattle.std.specs.Prelude.{◌≡◌, ◌+◌, ◌-◌, ◌*◌, IsTrue, bytes_eq};
 ghost use Rattle.cb_market_lines.specs.Lines.{is_digit, is_number, is_value_word, is_negative, is_comment, number};
 ghost use Rattle.cb_market_lines.specs.Cursor.{if_small, whole_number, number_of};
-ghost use Rattle.cb_market_lines.specs.Checks.{is_name, place_in, small_in, value_in};
+ghost use Rattle.cb_market_lines.specs.Checks.{is_name, small_in, value_in};
 
 use cb_matrix::LIMIT;
 use cb_semirings::Semiring;
@@ -79,13 +79,13 @@ impl<'a> Word<'a> {
         }
     }
 
-    /// Returns the index that the word names, counted from 0, if it is below the limit.
-    pub fn place(&self, limit: u32) -> Option<u32>
+    /// Returns the word's number, if it is below 2^64.
+    pub fn whole(&self) -> Option<u64>
         requires { IsTrue (is_number self.now.bytes.now) }
-        ensures { result ≡ place_in limit (number self.now.bytes.now) }
+        ensures { result ≡ if_small (number self.now.bytes.now) }
     {
         match self.number {
-            Number::Whole(number) => place_within(limit, number),
+            Number::Whole(number) => Some(number),
             _ => None,
         }
     }
@@ -110,16 +110,6 @@ impl<'a> Word<'a> {
             Number::Whole(number) => small_in(LIMIT, number),
             _ => None,
         }
-    }
-}
-
-fn place_within(limit: u32, number: u64) -> Option<u32>
-    ensures { result ≡ place_in limit number }
-{
-    if 1 <= number && number <= limit as u64 {
-        Some((number - 1) as u32)
-    } else {
-        None
     }
 }
 
