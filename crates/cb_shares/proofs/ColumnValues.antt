@@ -17,11 +17,11 @@ use Rattle.cb_product.proofs.OnlyColumns.{not_among, only_in, only_matrix, only_
 use Rattle.cb_product.proofs.ProductColumns.{inner, inner_value}
 
 -- a column that isn't listed has no values
-only_none : (s : Arithmetic) (cs : List ℕ) (m : Sparse) (i j : ℕ) → is_among cs j ≡ false → at s (only_columns cs m) i j ≡ s.zero
+pub only_none : (s : Arithmetic) (cs : List ℕ) (m : Sparse) (i j : ℕ) → is_among cs j ≡ false → at s (only_columns cs m) i j ≡ s.zero
 only_none s cs m i j f = absent_value s.zero (only_columns cs m).entries cs i j (only_in cs m) (not_among cs j f)
 
 -- listed columns of the matrix of f are the matrix of g, if g has the values of f in these columns and zeros elsewhere
-only_of : (s : Arithmetic) → IsSemiring s → (shape : Extent) (f g : ℕ → ℕ → ℕ) (cs : List ℕ) → ((i j : ℕ) → i < shape.rows → j < shape.cols → IsValue s (f i j))
+pub only_of : (s : Arithmetic) → IsSemiring s → (shape : Extent) (f g : ℕ → ℕ → ℕ) (cs : List ℕ) → ((i j : ℕ) → i < shape.rows → j < shape.cols → IsValue s (f i j))
     → ((i j : ℕ) → is_among cs j ≡ true → g i j ≡ f i j) → ((i j : ℕ) → is_among cs j ≡ false → g i j ≡ s.zero) → matrix_of s shape g ≡ only_columns cs (matrix_of s shape f)
 only_of s laws shape f g cs are same none =
     let whole : Sparse = matrix_of s shape f in
@@ -34,7 +34,7 @@ only_of s laws shape f g cs are same none =
 
 module _ (s : Arithmetic) (laws : IsSemiring s) (a b : Sparse) (is_a : IsMatrix s a) (is_b : IsMatrix s b) where
   -- a product is a matrix
-  product_matrix : IsMatrix s (product s a b)
+  pub product_matrix : IsMatrix s (product s a b)
   product_matrix = IsMatrix-matrix_of s (product_shape a b) (inner s a b) (λ i j _ _. inner_value s laws a b is_a is_b i j)
 
   -- with some columns of the second matrix, it is these columns of the product

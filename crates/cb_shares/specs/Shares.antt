@@ -1,15 +1,19 @@
 -- Panels of a matrix, each with a range of its columns, and where such ranges end.
-use Rattle.std.specs.Prelude.{◌≡◌, ℕ, ◌<◌, ◌≤◌, ◌-◌, List, length, slice_index, All, AllPairs}
+use Rattle.std.specs.Prelude.{◌≡◌, ℕ, ◌<◌, ◌≤◌, ◌-◌, List, length, filter, slice_index, All, AllPairs}
 use Rattle.std.specs.List.{range_with_len}
 use Rattle.cb_semirings.specs.Arithmetic.{Arithmetic}
 use Rattle.cb_matrix.specs.declared.Entry.{Entry}
 use Rattle.cb_matrix.specs.Sparse.{Sparse, IsMatrix}
 use Rattle.cb_dcsc.specs.Columns.{columns_with_entries}
-use Rattle.cb_product.specs.InColumns.{only_columns}
+use Rattle.cb_product.specs.InColumns.{is_among, only_columns}
 
 -- the columns from one up to, but not including, another
 abbrev pub columns_from : ℕ → ℕ → List ℕ
 columns_from first end = range_with_len first (end - first)
+
+-- the entries that are in listed columns
+abbrev pub among_entries : List ℕ → List Entry → List Entry
+among_entries columns es = filter (λ e. is_among columns e.column) es
 
 -- these columns of a matrix, in the shape of the whole
 abbrev pub panel : Sparse → ℕ → ℕ → Sparse

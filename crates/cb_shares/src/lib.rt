@@ -8,6 +8,11 @@
 //! Nothing here starts a thread: `cb_panels` does, by a runtime, and so may a program in C.
 #![tactic(auto)]
 
+mod answers;
+mod columns;
+mod entry_ends;
+mod selections;
+
 ghost use Rattle.std.specs.Prelude.{◌≡◌, ℕ, ◌↔◌, ◌<◌, ◌≤◌, IsTrue, length, get_or, slice_index, All, AllPairs, IfOk, OnOk, OnErr};
 ghost use Rattle.cb_matrix.specs.Sparse.{IsMatrix};
 ghost use Rattle.cb_matrix.specs.Operations.{masked};
@@ -17,12 +22,16 @@ ghost use Rattle.cb_operations.specs.Selected.{excluded};
 ghost use Rattle.cb_product.specs.ColumnStarts.{Tells};
 ghost use Rattle.cb_shares.specs.Shares.{panel, AreEnds, AreBefore, JoinsPanels};
 
+pub use answers::operation_columns;
 use cb_dcsc::Block;
 use cb_masked::{entries_between, multiply_masked_columns, multiply_outside_columns};
 use cb_product::{
     ColumnIndex, multiply_columns, products_of_column, products_of_columns, total_products,
 };
 use cb_semirings::Semiring;
+pub use columns::columns_between;
+pub use entry_ends::ends_by_entries;
+pub use selections::{selection_columns, update_columns};
 use std::alloc::{AllocError, Global};
 
 /// Returns where each of `count` shares of a product's columns ends. All shares take about the same number of products of
