@@ -582,6 +582,7 @@ const char *cbgrid_message(int code) {
         "not a Matrix Market text of this profile",
         "out of memory",
         "null pointer",
+        "matrix not a column",
     };
     return code >= 0 && (size_t)code < sizeof messages / sizeof *messages ? messages[code] : "no such code";
 }

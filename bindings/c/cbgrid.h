@@ -155,11 +155,12 @@ enum cbgrid_code {
     CBGRID_PLACE = 8,         /* an entry, row or column is outside the shape */
     CBGRID_VALUE = 9,         /* not a value of the semiring */
     CBGRID_SHAPES = 10,       /* the shapes of the operands don't agree */
-    CBGRID_NOT_SQUARE = 11,   /* the matrix of a graph isn't square */
+    CBGRID_NOT_SQUARE = 11,   /* the matrix of a graph or of a power isn't square */
     CBGRID_SOURCE = 12,       /* the graph has no such vertex */
     CBGRID_FORMAT = 13,       /* not a Matrix Market text of the profile (docs/FORMAT.md) */
     CBGRID_MEMORY = 14,       /* out of memory */
-    CBGRID_NULL_POINTER = 15  /* an argument, or a list that isn't empty, is a null pointer */
+    CBGRID_NULL_POINTER = 15, /* an argument, or a list that isn't empty, is a null pointer */
+    CBGRID_NOT_COLUMN = 16    /* the matrix doesn't have exactly one column */
 };
 
 /* What `kind` and `wide` of struct cbgrid_columns may be. */
@@ -354,8 +355,8 @@ int cbgrid_matrix_apply(const struct cbgrid_matrix *a, uint32_t function, uint64
  * binary search for each column that has entries. */
 int cbgrid_matrix_diagonal(const struct cbgrid_matrix *a, struct cbgrid_matrix **out);
 
-/* Makes the square matrix with the column a on its main diagonal. CBGRID_SHAPES if a doesn't have one column. Costs a
- * walk over the entries. */
+/* Makes the square matrix with the column a on its main diagonal. CBGRID_NOT_COLUMN if a doesn't have exactly one column.
+ * Costs a walk over the entries. */
 int cbgrid_matrix_diagonal_matrix(const struct cbgrid_matrix *a, struct cbgrid_matrix **out);
 
 /* Cuts out the rows of a from `row` up to, but not including, `row_end`, and the columns from `column` up to

@@ -88,14 +88,15 @@ static void test_null_matrices(void) {
 }
 
 static void test_messages(void) {
-    for (int code = 0; code <= CBGRID_NULL_POINTER; code++) {
+    for (int code = 0; code <= CBGRID_NOT_COLUMN; code++) {
         EXPECT(strlen(cbgrid_message(code)) > 3 && strcmp(cbgrid_message(code), "no such code"));
         for (int other = 0; other < code; other++) EXPECT(strcmp(cbgrid_message(code), cbgrid_message(other)));
     }
     EXPECT(!strcmp(cbgrid_message(-1), "no such code"));
-    EXPECT(!strcmp(cbgrid_message(CBGRID_NULL_POINTER + 1), "no such code"));
+    EXPECT(!strcmp(cbgrid_message(CBGRID_NOT_COLUMN + 1), "no such code"));
     EXPECT(!strcmp(cbgrid_message(CBGRID_MEMORY), "out of memory"));
     EXPECT(!strcmp(cbgrid_message(CBGRID_SHAPES), "shapes don't agree"));
+    EXPECT(!strcmp(cbgrid_message(CBGRID_NOT_COLUMN), "matrix not a column"));
 }
 
 void test_kept_codes(void) {

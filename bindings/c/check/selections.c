@@ -1,5 +1,5 @@
 /*
- * Kept matrices: selections, rows and columns by their numbers, pairings, totals, searches from several sources and from
+ * Kept matrices: selections, rows and columns by their numbers, totals, searches from several sources and from
  * initial values.
  */
 #include "check.h"
@@ -137,7 +137,7 @@ static void make_selection(struct selection *job, enum choice choice, uint32_t s
     if (choice == ASSIGN) job->row = draw(m - job->b.nrows + 1), job->column = draw(n - job->b.ncols + 1);
     job->row_count = draw_numbers(m, job->rows), job->column_count = draw_numbers(n, job->columns);
     job->code = CBGRID_OK;
-    if (choice == DIAGONAL_MATRIX && n != 1) job->code = CBGRID_SHAPES;
+    if (choice == DIAGONAL_MATRIX && n != 1) job->code = CBGRID_NOT_COLUMN;
     uint32_t last = job->number == CBGRID_ROW ? m : job->number == CBGRID_COLUMN ? n : 0;
     if (choice == APPLY && semiring == CBGRID_OR_AND && last > 2) job->code = CBGRID_VALUE;
     if (job->code == CBGRID_OK) job->want = wanted_selection(job);
@@ -239,7 +239,7 @@ static void test_selection_codes(void) {
     EXPECT(cbgrid_matrix_apply(flat, CBGRID_CONSTANT, 2, &out) == CBGRID_VALUE);
     EXPECT(cbgrid_matrix_apply(flat, CBGRID_LEFT_PRODUCT, 2, &out) == CBGRID_VALUE);
     EXPECT(cbgrid_matrix_apply(flat, CBGRID_COLUMN, 0, &out) == CBGRID_VALUE);
-    EXPECT(cbgrid_matrix_diagonal_matrix(a, &out) == CBGRID_SHAPES);
+    EXPECT(cbgrid_matrix_diagonal_matrix(a, &out) == CBGRID_NOT_COLUMN);
     EXPECT(cbgrid_matrix_part(a, 0, 3, 0, 3, &out) == CBGRID_PLACE);
     EXPECT(cbgrid_matrix_part(a, 0, 2, 0, UINT32_MAX, &out) == CBGRID_PLACE);
     EXPECT(cbgrid_matrix_part(a, 2, 1, 0, 3, &out) == CBGRID_PLACE);

@@ -187,7 +187,7 @@ class Selections(unittest.TestCase):
         self.refused(9, "number: 0 to 2^64 - 1", lambda: a.apply("sum", 2**64))
         self.refused(9, "not a value", lambda: a.apply("constant", 2))
         self.refused(9, "not a value", lambda: a.apply("row"))
-        self.refused(10, "shapes", lambda: cbgrid.Matrix.from_diagonal(a))
+        self.refused(16, "not a column", lambda: cbgrid.Matrix.from_diagonal(a))
         self.refused(8, "rows: entry 1 is 3", lambda: a.extract([0, 3], [0]))
         self.refused(8, "columns: entry 0 is -1", lambda: a.extract([0], [-1]))
         self.refused(3, "other semirings", lambda: a.kron(cbgrid.Matrix(np.eye(2, dtype=int))))

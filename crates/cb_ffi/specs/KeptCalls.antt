@@ -1,11 +1,12 @@
 -- What C gets of a call that keeps a matrix.
-use Rattle.std.specs.Prelude.{◌≡◌, ℕ, ◌⊎◌, List, length, Option, Some, IfSome}
+use Rattle.std.specs.Prelude.{◌≡◌, ℕ, ◌⊎◌, Bool, List, length, Option, Some, IfSome}
 use Rattle.std.specs.Borrow.{MutBor}
 use Rattle.cb_semirings.specs.Names.{arithmetic_of, numbered}
 use Rattle.cb_semirings.specs.Arithmetic.{Arithmetic}
 use Rattle.cb_semirings.specs.declared.names.SemiringName.{SemiringName}
 use Rattle.cb_matrix.specs.Sparse.{Sparse}
 use Rattle.cb_operations.specs.declared.operations.Operation.{Operation}
+use Rattle.cb_operations.specs.declared.selections.Selection.{Selection}
 use Rattle.cb_lists.specs.declared.lists.Columns.{Columns}
 use Rattle.cb_kept.specs.declared.triples.Triple.{Triple}
 use Rattle.cb_kept.specs.declared.faults.Fault.{Fault}
@@ -13,11 +14,9 @@ use Rattle.cb_kept.specs.declared.faults.Fault.TheVariants.{Memory}
 use Rattle.cb_kept.specs.declared.kept.Kept.{Kept}
 use Rattle.cb_kept.specs.Refusals.{code_of, over, read_faults, list_faults, IsMemory}
 use Rattle.cb_kept.specs.KeptAnswers.{kept_faults, HasMadeKept, OverName, IsKeptOf}
-use Rattle.cb_kept.specs.declared.selections.Selection.{Selection}
 use Rattle.cb_kept.specs.Kept.{matrix_in}
-use Rattle.cb_kept.specs.KeptSelections.{kept_selection_faults, HasSelected, number_faults, IsKeptExtract}
-use Rattle.cb_kept.specs.declared.pairings.Pairing.{Pairing}
-use Rattle.cb_kept.specs.KeptPairings.{pair_faults, IsKeptPair}
+use Rattle.cb_kept.specs.KeptSelections.{selection_faults, HasSelected, number_faults, IsKeptExtract}
+use Rattle.cb_kept.specs.KeptTurned.{turned_faults, IsKeptTurned}
 use Rattle.cb_selections.specs.declared.updates.WriteBack.{WriteBack}
 use Rattle.cb_kept.specs.KeptUpdates.{update_faults, HasUpdated}
 use Rattle.cb_kept.specs.declared.axes.Axis.{Axis}
@@ -49,15 +48,15 @@ IsKeptCallOver semiring faults is =
 unfoldable pub IsKeptOperation : Option Operation → List Kept → ℕ → Owned → Owned → Type 0
 IsKeptOperation operation ks code old new = IsKeptCall (kept_faults operation ks) (HasMadeKept operation ks) code old new
 
--- the same of a selection from one kept matrix, of its rows and columns by their numbers, and of a pairing of two
-unfoldable pub IsSelectionCall : Option Selection → Kept → ℕ → Owned → Owned → Type 0
-IsSelectionCall selection k code old new = IsKeptCall (kept_selection_faults selection k) (HasSelected selection k) code old new
+-- the same of a selection from kept matrices, of rows and columns by their numbers, and of a product of transposes
+unfoldable pub IsSelectionCall : Option Selection → List Kept → ℕ → Owned → Owned → Type 0
+IsSelectionCall selection ks code old new = IsKeptCall (selection_faults selection ks) (HasSelected selection ks) code old new
 
 unfoldable pub IsExtractCall : List ℕ → List ℕ → Kept → ℕ → Owned → Owned → Type 0
 IsExtractCall rows cols k code old new = IsKeptCall (number_faults rows cols (matrix_in k).shape) (IsKeptExtract rows cols k) code old new
 
-unfoldable pub IsPairCall : Pairing → Kept → Kept → ℕ → Owned → Owned → Type 0
-IsPairCall p a b code old new = IsKeptCall (pair_faults p a b) (IsKeptPair p a b) code old new
+unfoldable pub IsTurnedCall : Bool → Bool → Kept → Kept → ℕ → Owned → Owned → Type 0
+IsTurnedCall left right a b code old new = IsKeptCall (turned_faults left right a b) (IsKeptTurned left right a b) code old new
 
 -- the same of a kept matrix updated by another, under a mask if there is one
 unfoldable pub IsUpdateCall : Option WriteBack → Kept → Kept → Option Kept → ℕ → Owned → Owned → Type 0

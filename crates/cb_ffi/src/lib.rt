@@ -18,7 +18,7 @@
 //! ([`cbgrid_kernel_kept_join`]).
 #![tactic(auto)]
 
-ghost use Rattle.std.specs.Prelude.{◌≡◌, ◌≢◌, [], ◌∷◌, length, ◌==◌, not, Some, None, IfSome, IsSome, IfOk, IfErr, option_copied};
+ghost use Rattle.std.specs.Prelude.{◌≡◌, ◌≢◌, [], ◌∷◌, length, ◌==◌, not, Option, Some, None, IfSome, IsSome, IfOk, IfErr, option_copied};
 ghost use Rattle.cb_semirings.specs.Names.{arithmetic_of, numbered};
 ghost use Rattle.cb_semirings.specs.declared.names.SemiringName.TheVariants as name_is;
 ghost use Rattle.cb_matrix.specs.Sparse.{at};
@@ -35,28 +35,29 @@ ghost use Rattle.cb_kept.specs.Kept.{matrix_in, semiring_of};
 ghost use Rattle.cb_kept.specs.KeptAnswers.{prune_of, IsSummary};
 ghost use Rattle.cb_kept.specs.KeptGraphs.{search_faults, square_faults, IsKeptColumn, IsKeptComponents, IsKeptParents};
 ghost use Rattle.cb_reshape.specs.Sums.{matrix_total};
-ghost use Rattle.cb_kept.specs.declared.pairings.Pairing.TheVariants as pairing_is;
-ghost use Rattle.cb_kept.specs.declared.selections.Selection.TheVariants as selection_is;
-ghost use Rattle.cb_kept.specs.KeptSelections.{function_of, region_of};
+ghost use Rattle.cb_operations.specs.declared.selections.Selection.{Selection as Selected};
+ghost use Rattle.cb_operations.specs.declared.selections.Selection.TheVariants as selection_is;
+ghost use Rattle.cb_operations.specs.SelectionAnswers as selections;
+ghost use Rattle.cb_kept.specs.KeptSelections.{function_of, IsPowerOf, region_of};
 ghost use Rattle.cb_kept.specs.KeptUpdates.{write_back_of};
 ghost use Rattle.cb_kept.specs.declared.axes.Axis.TheVariants as axis_is;
 ghost use Rattle.cb_kept.specs.declared.kept_masked_panels.Allowed.TheVariants as allowed_is;
 ghost use Rattle.cb_kept.specs.KeptTexts.{IsKeptText};
 ghost use Rattle.cb_ffi.specs.Calls.{IsCall, IsLine};
-ghost use Rattle.cb_ffi.specs.KeptCalls.{HasHandedOut, IsDegreesCall, IsEndsCall, IsExtractCall, IsJoinCall, IsKeepCall, IsKeptCall, IsKeptOperation, IsMaskedPanelCall, IsNumbersFromCall, IsNumbersGivenCall, IsOutsideCall, IsOwnedJoinCall, IsPairCall, IsPanelCall, IsReadCall, IsSelectionCall, IsTriplesCall, IsUpdateCall};
+ghost use Rattle.cb_ffi.specs.KeptCalls.{HasHandedOut, IsDegreesCall, IsEndsCall, IsExtractCall, IsJoinCall, IsKeepCall, IsKeptCall, IsKeptOperation, IsMaskedPanelCall, IsNumbersFromCall, IsNumbersGivenCall, IsOutsideCall, IsOwnedJoinCall, IsPanelCall, IsReadCall, IsSelectionCall, IsTriplesCall, IsTurnedCall, IsUpdateCall};
 
 mod handles;
 
 use cb_kept::{
-    Allowed, Axis, Fault, Kept, Pairing, Selection, Summary, Text, Triple, function_of, keep_lists,
-    keep_triples, kept_components, kept_degrees, kept_ends, kept_extract, kept_join,
-    kept_masked_panel, kept_numbers, kept_numbers_from, kept_numbers_given, kept_outside,
-    kept_pair, kept_panel, kept_parents, kept_selection, kept_total, kept_triangles, kept_update,
-    lists_of, operate, prune_of, read_kept, region_of, summary_of, text_of, value_at,
+    Allowed, Axis, Fault, Kept, Summary, Text, Triple, function_of, keep_lists, keep_triples,
+    kept_components, kept_degrees, kept_ends, kept_extract, kept_join, kept_masked_panel,
+    kept_numbers, kept_numbers_from, kept_numbers_given, kept_outside, kept_panel, kept_parents,
+    kept_selection, kept_total, kept_triangles, kept_turned_product, kept_update, lists_of,
+    operate, power_of, prune_of, read_kept, region_of, summary_of, text_of, value_at,
     write_back_of,
 };
 use cb_lists::Columns;
-use cb_operations::Operation;
+use cb_operations::{Operation, Selection};
 use cb_selections::WriteBack;
 use cb_semirings::{MinPlus, OrAnd};
 pub use handles::{Lent, Owned};
@@ -108,18 +109,32 @@ fn call_kept(
     put_kept(alloc, out, operate(alloc, operation, operands))
 }
 
-/// Keeps the result of a selection from a kept matrix, or returns the number of the fault.
-fn select_kept(alloc: Global, selection: Option<Selection>, kept: &Kept, out: &mut Owned) -> u32
-    ensures { IsSelectionCall selection kept.now result out.old out.new }
+/// Keeps the result of a selection from kept matrices, or returns the number of the fault.
+fn select_kept(
+    alloc: Global,
+    selection: Option<Selection>,
+    operands: &[&Kept],
+    out: &mut Owned,
+) -> u32
+    requires { IfSome selection (λ o. length operands.now ≡ selections.operand_count_of o) }
+    ensures { IsSelectionCall selection (lent_in operands.now) result out.old out.new }
 {
-    put_kept(alloc, out, kept_selection(alloc, selection, kept))
+    put_kept(alloc, out, kept_selection(alloc, selection, operands))
 }
 
-/// Keeps the result of an operation on two kept matrices, or returns the number of the fault.
-fn pair_kept(alloc: Global, pairing: Pairing, left: &Kept, right: &Kept, out: &mut Owned) -> u32
-    ensures { IsPairCall pairing left.now right.now result out.old out.new }
+/// Keeps a product of two kept matrices of which each may be transposed first, or returns the number of the fault.
+fn multiply_kept(
+    alloc: Global,
+    left: &Kept,
+    turn_left: bool,
+    right: &Kept,
+    turn_right: bool,
+    out: &mut Owned,
+) -> u32
+    ensures { IsTurnedCall turn_left turn_right left.now right.now result out.old out.new }
 {
-    put_kept(alloc, out, kept_pair(alloc, pairing, left, right))
+    let answer = kept_turned_product(alloc, left, turn_left, right, turn_right);
+    put_kept(alloc, out, answer)
 }
 
 /// Keeps an updated matrix, or returns the number of the fault.
@@ -337,9 +352,10 @@ pub extern "C" fn cbgrid_kernel_kept_select(
     column: u32,
     out: &mut Owned,
 ) -> u32
-    ensures { IsSelectionCall (region_of region row column) a.kept.now result out.old out.new }
+    ensures { IsSelectionCall (region_of region row column) (a.kept.now ∷ []) result out.old out.new }
 {
-    select_kept(alloc, region_of(region, row, column), borrowed(a), out)
+    let selection = region_of(region, row, column);
+    select_kept(alloc, selection, &[borrowed(a)], out)
 }
 
 /// Replaces each value of a kept matrix by the function of a number ([`function_of`]), which takes `number`.
@@ -351,25 +367,26 @@ pub extern "C" fn cbgrid_kernel_kept_apply(
     number: u64,
     out: &mut Owned,
 ) -> u32
-    ensures { IsSelectionCall (function_of function number) a.kept.now result out.old out.new }
+    ensures { IsSelectionCall (function_of function number) (a.kept.now ∷ []) result out.old out.new }
 {
-    select_kept(alloc, function_of(function, number), borrowed(a), out)
+    select_kept(alloc, function_of(function, number), &[borrowed(a)], out)
 }
 
 /// The diagonal of a kept matrix, in one column.
 #[unsafe(no_mangle)]
 pub extern "C" fn cbgrid_kernel_kept_diagonal(alloc: Global, a: Lent, out: &mut Owned) -> u32
-    ensures { IsSelectionCall (Some selection_is.Diagonal) a.kept.now result out.old out.new }
+    ensures { IsSelectionCall (Some selection_is.Diagonal) (a.kept.now ∷ []) result out.old out.new }
 {
-    select_kept(alloc, Some(Selection::Diagonal), borrowed(a), out)
+    select_kept(alloc, Some(Selection::Diagonal), &[borrowed(a)], out)
 }
 
 /// The square matrix with a kept column on its diagonal.
 #[unsafe(no_mangle)]
 pub extern "C" fn cbgrid_kernel_kept_diagonal_matrix(alloc: Global, a: Lent, out: &mut Owned) -> u32
-    ensures { IsSelectionCall (Some selection_is.DiagonalMatrix) a.kept.now result out.old out.new }
+    ensures { IsSelectionCall (Some selection_is.DiagonalMatrix) (a.kept.now ∷ []) result out.old out.new }
 {
-    select_kept(alloc, Some(Selection::DiagonalMatrix), borrowed(a), out)
+    let selection = Some(Selection::DiagonalMatrix);
+    select_kept(alloc, selection, &[borrowed(a)], out)
 }
 
 /// The part of a kept matrix from `row` up to, but not including, `row_end`, and from `column` up to `column_end`.
@@ -383,10 +400,10 @@ pub extern "C" fn cbgrid_kernel_kept_part(
     column_end: u32,
     out: &mut Owned,
 ) -> u32
-    ensures { IsSelectionCall (Some (selection_is.Part (row, row_end) (column, column_end))) a.kept.now result out.old out.new }
+    ensures { IsSelectionCall (Some (selection_is.Part (row, row_end) (column, column_end))) (a.kept.now ∷ []) result out.old out.new }
 {
     let part = Selection::Part((row, row_end), (column, column_end));
-    select_kept(alloc, Some(part), borrowed(a), out)
+    select_kept(alloc, Some(part), &[borrowed(a)], out)
 }
 
 /// The rows and columns of a kept matrix by their numbers, in any order, with repetitions.
@@ -412,9 +429,10 @@ pub extern "C" fn cbgrid_kernel_kept_kronecker(
     b: Lent,
     out: &mut Owned,
 ) -> u32
-    ensures { IsPairCall pairing_is.Kronecker a.kept.now b.kept.now result out.old out.new }
+    ensures { IsSelectionCall (Some selection_is.Kronecker) (a.kept.now ∷ b.kept.now ∷ []) result out.old out.new }
 {
-    pair_kept(alloc, Pairing::Kronecker, borrowed(a), borrowed(b), out)
+    let selection = Some(Selection::Kronecker);
+    select_kept(alloc, selection, &[borrowed(a), borrowed(b)], out)
 }
 
 /// A kept matrix with another in place of the part of its shape that begins at `row` and `column`.
@@ -427,10 +445,10 @@ pub extern "C" fn cbgrid_kernel_kept_assign(
     part: Lent,
     out: &mut Owned,
 ) -> u32
-    ensures { IsPairCall (pairing_is.Assign (row, column)) a.kept.now part.kept.now result out.old out.new }
+    ensures { IsSelectionCall (Some (selection_is.Assign (row, column))) (a.kept.now ∷ part.kept.now ∷ []) result out.old out.new }
 {
-    let pairing = Pairing::Assign((row, column));
-    pair_kept(alloc, pairing, borrowed(a), borrowed(part), out)
+    let selection = Some(Selection::Assign((row, column)));
+    select_kept(alloc, selection, &[borrowed(a), borrowed(part)], out)
 }
 
 /// The entries of a kept matrix at the places where a kept mask has none.
@@ -441,9 +459,10 @@ pub extern "C" fn cbgrid_kernel_kept_exclude(
     mask: Lent,
     out: &mut Owned,
 ) -> u32
-    ensures { IsPairCall pairing_is.Exclude a.kept.now mask.kept.now result out.old out.new }
+    ensures { IsSelectionCall (Some selection_is.Exclude) (a.kept.now ∷ mask.kept.now ∷ []) result out.old out.new }
 {
-    pair_kept(alloc, Pairing::Exclude, borrowed(a), borrowed(mask), out)
+    let selection = Some(Selection::Exclude);
+    select_kept(alloc, selection, &[borrowed(a), borrowed(mask)], out)
 }
 
 /// Multiplies two kept matrices, of which each is transposed first if its flag isn't 0.
@@ -456,10 +475,16 @@ pub extern "C" fn cbgrid_kernel_kept_multiply_turned(
     turn_b: u32,
     out: &mut Owned,
 ) -> u32
-    ensures { IsPairCall (pairing_is.Multiply (not (turn_a == 0)) (not (turn_b == 0))) a.kept.now b.kept.now result out.old out.new }
+    ensures { IsTurnedCall (not (turn_a == 0)) (not (turn_b == 0)) a.kept.now b.kept.now result out.old out.new }
 {
-    let pairing = Pairing::Multiply(turn_a != 0, turn_b != 0);
-    pair_kept(alloc, pairing, borrowed(a), borrowed(b), out)
+    multiply_kept(
+        alloc,
+        borrowed(a),
+        turn_a != 0,
+        borrowed(b),
+        turn_b != 0,
+        out,
+    )
 }
 
 /// The power of a kept square matrix with this many factors.
@@ -470,9 +495,9 @@ pub extern "C" fn cbgrid_kernel_kept_power(
     factors: u32,
     out: &mut Owned,
 ) -> u32
-    ensures { IsSelectionCall (Some (selection_is.Power factors)) a.kept.now result out.old out.new }
+    ensures { (o : Option Selected) × IsPowerOf factors o × IsSelectionCall o (a.kept.now ∷ []) result out.old out.new }
 {
-    select_kept(alloc, Some(Selection::Power(factors)), borrowed(a), out)
+    select_kept(alloc, power_of(factors), &[borrowed(a)], out)
 }
 
 /// A kept matrix, updated at all places by a new one. `flags` says how ([`write_back_of`]).

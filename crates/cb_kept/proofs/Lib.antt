@@ -1,7 +1,8 @@
--- Firsts: the first fault of a call. TripleFaults: that of triples. KeptFirsts, KeptGraphFaults: that of a call on kept
--- matrices. OkOrErr: what follows of a call that went well, or failed.
+-- Firsts: the first fault of a call. TripleFaults: that of triples. KeptFirsts, SelectionFirsts, KeptGraphFaults: that of a
+-- call on kept matrices. OkOrErr: what follows of a call that went well, or failed.
 pub mod Firsts
 pub mod OkOrErr
 pub mod KeptFirsts
+pub mod SelectionFirsts
 pub mod TripleFaults
 pub mod KeptGraphFaults

@@ -1,8 +1,8 @@
 -- Refusals: the faults of calls. Answers: what a call returns.
 -- Kept: kept matrices. KeptAnswers: what an operation on them returns.
 -- Triples: matrices of triples. KeptTexts: texts of kept matrices. KeptGraphs: searches, parents, components and triangles
--- of kept graphs. KeptSelections: operations on one kept matrix. KeptPairings: operations on two. KeptProducts: products
--- outside a mask. KeptPanels: products in panels. KeptUpdates: one updated by another, under a mask. KeptDegrees: how
+-- of kept graphs. KeptSelections: selections from kept matrices. KeptProducts: products outside a mask. KeptTurned: products
+-- of transposes. KeptPanels: products in panels. KeptUpdates: one updated by another, under a mask. KeptDegrees: how
 -- many entries rows and columns have.
 pub mod Refusals
 pub mod Answers
@@ -12,7 +12,7 @@ pub mod Triples
 pub mod KeptTexts
 pub mod KeptGraphs
 pub mod KeptSelections
-pub mod KeptPairings
+pub mod KeptTurned
 pub mod KeptUpdates
 pub mod KeptDegrees
 pub mod KeptProducts

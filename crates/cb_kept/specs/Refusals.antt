@@ -6,8 +6,12 @@ use Rattle.cb_semirings.specs.Names.{arithmetic_of}
 use Rattle.cb_market_lines.specs.declared.ReadFault.{ReadFault}
 use Rattle.cb_market_lines.specs.Faults.{first_fault}
 use Rattle.cb_lists.specs.declared.lists.Columns.{Columns}
+use Rattle.cb_operations.specs.declared.refusals.SelectionRefusal.{SelectionRefusal}
+use Rattle.cb_operations.specs.declared.refusals.SelectionRefusal.TheVariants as refusal_is
+use Rattle.cb_selections.specs.declared.selections.SelectionFault.{SelectionFault}
+use Rattle.cb_selections.specs.declared.selections.SelectionFault.TheVariants as selection_is
 use Rattle.cb_kept.specs.declared.faults.Fault.{Fault}
-use Rattle.cb_kept.specs.declared.faults.Fault.TheVariants.{Semiring, Test, Mixed, Form, TooLarge, Lengths, Order, Place, Value, Shapes, NotSquare, Source, Text, Memory}
+use Rattle.cb_kept.specs.declared.faults.Fault.TheVariants.{Semiring, Test, Mixed, Form, TooLarge, Lengths, Order, Place, Value, Shapes, NotColumn, NotSquare, Source, Text, Memory}
 use Rattle.cb_lists.specs.Lists.{HasForm, Fits, HaveLengths, AreOrdered, AreInside, AreValues}
 
 -- the number of a fault
@@ -26,6 +30,23 @@ code_of NotSquare = 11
 code_of Source = 12
 code_of Text = 13
 code_of Memory = 14
+code_of NotColumn = 16
+
+-- the fault of a selection that is refused
+abbrev pub refused_as : SelectionRefusal → Fault
+refused_as refusal_is.Shapes = Shapes
+refused_as refusal_is.NoValue = Value
+refused_as refusal_is.NotColumn = NotColumn
+refused_as refusal_is.NotSquare = NotSquare
+refused_as refusal_is.TooLarge = TooLarge
+refused_as refusal_is.Place = Place
+refused_as refusal_is.NoRow = Place
+refused_as refusal_is.NoColumn = Place
+
+-- the fault of a selection that isn't made
+abbrev pub selection_fault_of : SelectionFault → Fault
+selection_fault_of (selection_is.Refused refusal) = refused_as refusal
+selection_fault_of selection_is.Memory = Memory
 
 -- the fault g if P doesn't hold, or else one of the faults that come next
 abbrev pub Unless : Type 0 → Fault → (Fault → Type 0) → Fault → Type 0

@@ -1,7 +1,9 @@
 //! Why a call fails.
-ghost use Rattle.std.specs.Prelude.{◌≡◌, ◌≢◌, ◌<◌};
-ghost use Rattle.cb_kept.specs.Refusals.{code_of};
+ghost use Rattle.std.specs.Prelude.{◌≡◌, ◌≢◌};
+ghost use Rattle.cb_kept.specs.Refusals.{code_of, refused_as, selection_fault_of};
 
+use cb_operations::SelectionRefusal;
+use cb_selections::SelectionFault;
 use std::alloc::AllocError;
 
 /// Why a call fails. A call looks for faults in the order of these variants. `Memory` comes last.
@@ -27,7 +29,9 @@ pub enum Fault {
     Value,
     /// The shapes of the operands don't agree.
     Shapes,
-    /// The matrix of a graph isn't square.
+    /// The matrix of a diagonal has not exactly one column.
+    NotColumn,
+    /// The matrix of a graph or of a power isn't square.
     NotSquare,
     /// The graph has no such vertex.
     Source,
@@ -68,6 +72,33 @@ impl Fault {
             Fault::Source => 12,
             Fault::Text => 13,
             Fault::Memory => 14,
+            Fault::NotColumn => 16,
+        }
+    }
+
+    /// Returns the fault of a selection that is refused.
+    fn of_refusal(refusal: SelectionRefusal) -> Fault
+        ensures { result ≡ refused_as refusal }
+    {
+        match refusal {
+            SelectionRefusal::Shapes => Fault::Shapes,
+            SelectionRefusal::NoValue => Fault::Value,
+            SelectionRefusal::NotColumn => Fault::NotColumn,
+            SelectionRefusal::NotSquare => Fault::NotSquare,
+            SelectionRefusal::TooLarge => Fault::TooLarge,
+            SelectionRefusal::Place => Fault::Place,
+            SelectionRefusal::NoRow => Fault::Place,
+            SelectionRefusal::NoColumn => Fault::Place,
+        }
+    }
+
+    /// Returns the fault of a selection that isn't made.
+    pub(crate) fn of_selection(fault: SelectionFault) -> Fault
+        ensures { result ≡ selection_fault_of fault }
+    {
+        match fault {
+            SelectionFault::Refused(refusal) => Fault::of_refusal(refusal),
+            SelectionFault::Memory => Fault::Memory,
         }
     }
 }

@@ -1,6 +1,6 @@
 //! The checks of calls on kept matrices. Each matrix is well formed: operands only have to agree with one another, and a graph
 //! has to be square and over the semiring of the call.
-ghost use Rattle.std.specs.Prelude.{◌≡◌, ◌↔◌, IsTrue, length, map, All, Some, IfSome, IfNone, IfOk, IfErr};
+ghost use Rattle.std.specs.Prelude.{◌≡◌, ◌↔◌, ◌<◌, IsTrue, length, map, All, Some, IfSome, IfNone, IfOk, IfErr};
 ghost use Rattle.cb_operations.specs.OperationAnswers.{operand_count_of, Agree, shapes_in};
 ghost use Rattle.std.specs.Borrow.{Bor};
 ghost use Rattle.cb_kept.specs.declared.kept.Kept.{Kept as KeptValue};
@@ -45,8 +45,27 @@ fn made_shape(operation: Operation, operands: &[&Kept]) -> Option<Shape>
     }
 }
 
+/// The semiring of some operands, if all are over one.
+#[tactic(auto, using(crate::proofs::KeptFirsts::first_semiring))]
+pub(crate) fn one_semiring(operands: &[&Kept]) -> Option<SemiringName>
+    requires { 0 < length operands.now }
+    ensures first { IfSome result (λ name. name ≡ semiring_in (lent_in operands.now)) }
+    ensures over { IfSome result (λ name. AreOver name (lent_in operands.now)) }
+    ensures mixed { IfNone result (¬ AreOver (semiring_in (lent_in operands.now)) (lent_in operands.now)) }
+{
+    let [first, ..] = operands else {
+        unreachable!()
+    };
+    let semiring = first.semiring();
+    if are_over(semiring, operands) {
+        Some(semiring)
+    } else {
+        None
+    }
+}
+
 /// The semiring of an operation's operands, if all are over one and their shapes agree; or else the first fault.
-#[tactic(auto, using(crate::proofs::KeptFirsts::some_operand, crate::proofs::KeptFirsts::first_semiring))]
+#[tactic(auto, using(crate::proofs::KeptFirsts::some_operand))]
 pub(crate) fn common_semiring(
     operation: Operation,
     operands: &[&Kept],
@@ -57,13 +76,9 @@ pub(crate) fn common_semiring(
     ensures agree { IfOk result (λ _. Agree operation (shapes_in (map matrix_in (lent_in operands.now)))) }
     ensures fault { IfErr result (kept_faults (Some operation) (lent_in operands.now)) }
 {
-    let [first, ..] = operands else {
-        unreachable!()
-    };
-    let semiring = first.semiring();
-    if !are_over(semiring, operands) {
+    let Some(semiring) = one_semiring(operands) else {
         return Err(Fault::Mixed);
-    }
+    };
     let Some(_shape) = made_shape(operation, operands) else {
         return Err(Fault::Shapes);
     };

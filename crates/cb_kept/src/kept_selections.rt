@@ -1,152 +1,135 @@
-//! Operations on one kept matrix: place by place, and powers; rows and columns by their numbers; and the sum of all values.
-ghost use Rattle.std.specs.Prelude.{◌≡◌, ◌↔◌, ◌<◌, ◌≤◌, length, All, IsTrue, IfOk, IfErr};
+//! Selections from kept matrices, whose result is kept; rows and columns by their numbers; and the sum of all values.
+ghost use Rattle.std.specs.Prelude.{◌≡◌, ◌↔◌, [], ◌∷◌, ◌<◌, ◌≤◌, length, map, All, IsTrue, Some, IfSome, IfOk, IfErr};
 ghost use Rattle.cb_semirings.specs.Names.{arithmetic_of};
 ghost use Rattle.cb_reshape.specs.Sums.{matrix_total};
+ghost use Rattle.cb_operations.specs.Operands.{lent_in};
+ghost use Rattle.cb_operations.specs.OperationAnswers.{shapes_in};
+ghost use Rattle.cb_operations.specs.SelectionAnswers.{answer_of, operand_count_of, Suits};
 ghost use Rattle.cb_selections.specs.Extracted.{extracted};
-ghost use Rattle.cb_kept.specs.declared.selections.Selection.TheVariants as selection_is;
+ghost use Rattle.cb_selections.specs.SelectionFaults.{IsFaultOf};
 ghost use Rattle.cb_kept.specs.Answers.{IsAnswer, NoFault};
-ghost use Rattle.cb_kept.specs.Kept.{Keeps, semiring_of, matrix_in};
-ghost use Rattle.cb_kept.specs.KeptSelections.{kept_selection_faults, HasSelected, IsMade, IsMadeOver, IsRange, number_faults, IsKeptExtract};
+ghost use Rattle.cb_kept.specs.Kept.{AreOver, Keeps, semiring_of, matrix_in};
+ghost use Rattle.cb_kept.specs.KeptSelections.{selection_faults, HasSelected, number_faults, IsKeptExtract};
 
 use crate::faults::Fault;
 use crate::keeping::Keep;
 use crate::kept::{Kept, of_block};
-use crate::selections::Selection;
+use crate::kept_checks::one_semiring;
+use crate::kept_operations::block_in;
 use cb_dcsc::Block;
 use cb_matrix::{LIMIT, Shape};
-use cb_operations::{Function, Region};
-use cb_reshape::{cut, total};
-use cb_selections::{apply, diagonal, diagonal_matrix, extract, power, select};
-use cb_semirings::Semiring;
+use cb_operations::Selection;
+use cb_reshape::total;
+use cb_selections::{SelectionFault, compute, extract};
+use cb_semirings::{Semiring, SemiringName, over_semiring};
 use std::alloc::Global;
 
-/// The entries of a block in a region.
-#[tactic(auto, unfolding(crate::specs::KeptSelections::made_by, crate::specs::KeptSelections::selection_faults))]
-fn in_region<S: Semiring>(
-    alloc: Global,
-    block: &Block<S>,
-    region: Region,
-) -> Result<Block<S>, Fault>
-    ensures { IsMade (selection_is.Select region) S.arithmetic block.now result }
-{
-    Ok(select(alloc, block, region)?)
-}
-
-/// The diagonal of a block, in one column.
-#[tactic(auto, unfolding(crate::specs::KeptSelections::made_by, crate::specs::KeptSelections::selection_faults))]
-fn diagonal_column<S: Semiring>(alloc: Global, block: &Block<S>) -> Result<Block<S>, Fault>
-    ensures { IsMade selection_is.Diagonal S.arithmetic block.now result }
-{
-    Ok(diagonal(alloc, block)?)
-}
-
-/// A block with a function of each entry in place of its value, if the number that the function takes is a value of the
-/// semiring.
-#[tactic(auto, unfolding(crate::specs::KeptSelections::made_by, crate::specs::KeptSelections::selection_faults))]
-fn replaced<S: Semiring>(
-    alloc: Global,
-    block: &Block<S>,
-    function: Function,
-) -> Result<Block<S>, Fault>
-    ensures { IsMade (selection_is.Apply function) S.arithmetic block.now result }
-{
-    if !function.fits::<S>(block.shape()) {
-        return Err(Fault::Value);
-    }
-    Ok(apply(alloc, block, function)?)
-}
-
-/// The square block with a block on its diagonal, if that block is one column.
-#[tactic(auto, unfolding(crate::specs::KeptSelections::made_by, crate::specs::KeptSelections::selection_faults))]
-fn on_diagonal<S: Semiring>(alloc: Global, block: &Block<S>) -> Result<Block<S>, Fault>
-    ensures { IsMade selection_is.DiagonalMatrix S.arithmetic block.now result }
-{
-    if block.shape().cols() != 1 {
-        return Err(Fault::Shapes);
-    }
-    Ok(diagonal_matrix(alloc, block)?)
-}
-
-/// Whether a range doesn't descend and ends at or before a bound.
-fn is_range(bound: u32, range: (u32, u32)) -> bool
-    ensures { IsTrue result ↔ IsRange bound range }
-{
-    range.0 <= range.1 && range.1 <= bound
-}
-
-/// The part of a block in a range of rows and a range of columns, if it has them.
-#[tactic(auto, unfolding(crate::specs::KeptSelections::made_by, crate::specs::KeptSelections::selection_faults))]
-fn part<S: Semiring>(
-    alloc: Global,
-    block: &Block<S>,
-    rows: (u32, u32),
-    cols: (u32, u32),
-) -> Result<Block<S>, Fault>
-    ensures { IsMade (selection_is.Part rows cols) S.arithmetic block.now result }
-{
-    let shape = block.shape();
-    if !is_range(shape.rows(), rows) {
-        return Err(Fault::Place);
-    }
-    if !is_range(shape.cols(), cols) {
-        return Err(Fault::Place);
-    }
-    Ok(cut(alloc, block, rows, cols)?)
-}
-
-/// The power of a block, if it is square and there are factors.
-#[tactic(auto, unfolding(crate::specs::KeptSelections::made_by, crate::specs::KeptSelections::selection_faults))]
-fn power_of<S: Semiring>(alloc: Global, block: &Block<S>, factors: u32) -> Result<Block<S>, Fault>
-    ensures { IsMade (selection_is.Power factors) S.arithmetic block.now result }
-{
-    if factors == 0 {
-        return Err(Fault::Test);
-    }
-    let shape = block.shape();
-    if shape.rows() != shape.cols() {
-        return Err(Fault::NotSquare);
-    }
-    Ok(power(alloc, block, factors)?)
-}
-
-/// The result of a selection from a block.
-fn made<S: Semiring>(
+/// The selection from one block.
+fn made_of_one<S: Semiring>(
     alloc: Global,
     selection: Selection,
-    block: &Block<S>,
-) -> Result<Block<S>, Fault>
-    ensures { IsMade selection S.arithmetic block.now result }
+    a: &Block<S>,
+) -> Result<Block<S>, SelectionFault>
+    requires { operand_count_of selection ≡ 1 }
+    ensures ok { IfOk result (λ m. m ≡ answer_of selection S.arithmetic (a.now ∷ [])) }
+    ensures suits { IfOk result (λ _. Suits selection S.arithmetic (shapes_in (a.now ∷ []))) }
+    ensures fault { IfErr result (IsFaultOf selection S.arithmetic (a.now ∷ [])) }
 {
-    match selection {
-        Selection::Select(region) => in_region(alloc, block, region),
-        Selection::Apply(function) => replaced(alloc, block, function),
-        Selection::Diagonal => diagonal_column(alloc, block),
-        Selection::DiagonalMatrix => on_diagonal(alloc, block),
-        Selection::Part(rows, cols) => part(alloc, block, rows, cols),
-        Selection::Power(factors) => power_of(alloc, block, factors),
+    compute(alloc, selection, &[a])
+}
+
+/// The selection from two blocks.
+fn made_of_two<S: Semiring>(
+    alloc: Global,
+    selection: Selection,
+    a: &Block<S>,
+    b: &Block<S>,
+) -> Result<Block<S>, SelectionFault>
+    requires { operand_count_of selection ≡ 2 }
+    ensures ok { IfOk result (λ m. m ≡ answer_of selection S.arithmetic (a.now ∷ b.now ∷ [])) }
+    ensures suits { IfOk result (λ _. Suits selection S.arithmetic (shapes_in (a.now ∷ b.now ∷ []))) }
+    ensures fault { IfErr result (IsFaultOf selection S.arithmetic (a.now ∷ b.now ∷ [])) }
+{
+    compute(alloc, selection, &[a, b])
+}
+
+/// The selection from kept matrices over a semiring.
+fn made<S: Keep>(
+    alloc: Global,
+    selection: Selection,
+    operands: &[&Kept],
+) -> Result<Block<S>, SelectionFault>
+    requires count { length operands.now ≡ operand_count_of selection }
+    requires over { AreOver S.name (lent_in operands.now) }
+    ensures ok { IfOk result (λ m. m ≡ answer_of selection S.arithmetic (map matrix_in (lent_in operands.now))) }
+    ensures suits { IfOk result (λ _. Suits selection S.arithmetic (shapes_in (map matrix_in (lent_in operands.now)))) }
+    ensures fault { IfErr result (IsFaultOf selection S.arithmetic (map matrix_in (lent_in operands.now))) }
+{
+    match operands {
+        [a] => made_of_one(alloc, selection, block_in::<S>(a)),
+        [a, b] => made_of_two(alloc, selection, block_in::<S>(a), block_in::<S>(b)),
+        _ => unreachable!(),
     }
 }
 
 /// The same, kept.
-fn made_kept<S: Keep>(alloc: Global, selection: Selection, block: &Block<S>) -> Result<Kept, Fault>
-    ensures { IsMadeOver S.name selection S.arithmetic block.now result }
+fn made_over<S: Keep>(
+    alloc: Global,
+    selection: Selection,
+    operands: &[&Kept],
+) -> Result<Kept, SelectionFault>
+    requires count { length operands.now ≡ operand_count_of selection }
+    requires over { AreOver S.name (lent_in operands.now) }
+    ensures ok { IfOk result (Keeps S.name (answer_of selection S.arithmetic (map matrix_in (lent_in operands.now)))) }
+    ensures suits { IfOk result (λ _. Suits selection S.arithmetic (shapes_in (map matrix_in (lent_in operands.now)))) }
+    ensures fault { IfErr result (IsFaultOf selection S.arithmetic (map matrix_in (lent_in operands.now))) }
 {
-    let mut block = made(alloc, selection, block)?;
+    let mut block = made::<S>(alloc, selection, operands)?;
     Ok(S::keep(alloc, &mut block))
 }
 
-/// Computes an operation on one kept matrix, place by place, and keeps the result. `None` stands for an unknown region or
-/// function.
-#[tactic(auto, unfolding(crate::specs::Kept::semiring_of, crate::specs::Kept::matrix_in))]
+/// The same, over the semiring of a name.
+fn made_named(
+    alloc: Global,
+    semiring: SemiringName,
+    selection: Selection,
+    operands: &[&Kept],
+) -> Result<Kept, SelectionFault>
+    requires count { length operands.now ≡ operand_count_of selection }
+    requires over { AreOver semiring (lent_in operands.now) }
+    ensures ok { IfOk result (Keeps semiring (answer_of selection (arithmetic_of semiring) (map matrix_in (lent_in operands.now)))) }
+    ensures suits { IfOk result (λ _. Suits selection (arithmetic_of semiring) (shapes_in (map matrix_in (lent_in operands.now)))) }
+    ensures fault { IfErr result (IsFaultOf selection (arithmetic_of semiring) (map matrix_in (lent_in operands.now))) }
+{
+    over_semiring!(semiring, made_over::<_>(alloc, selection, operands))
+}
+
+/// The kept selection from kept matrices, if they are over one semiring and it isn't refused.
+fn select_known(alloc: Global, selection: Selection, operands: &[&Kept]) -> Result<Kept, Fault>
+    requires { length operands.now ≡ operand_count_of selection }
+    ensures { IsAnswer (selection_faults (Some selection) (lent_in operands.now)) (HasSelected (Some selection) (lent_in operands.now)) result }
+{
+    let Some(semiring) = one_semiring(operands) else {
+        return Err(Fault::Mixed);
+    };
+    match made_named(alloc, semiring, selection, operands) {
+        Ok(kept) => Ok(kept),
+        Err(fault) => Err(Fault::of_selection(fault)),
+    }
+}
+
+/// Makes a selection from kept matrices, and keeps the result. `None` stands for an unknown region or function, or for a power
+/// without factors.
 pub fn kept_selection(
     alloc: Global,
     selection: Option<Selection>,
-    kept: &Kept,
+    operands: &[&Kept],
 ) -> Result<Kept, Fault>
-    ensures { IsAnswer (kept_selection_faults selection kept.now) (HasSelected selection kept.now) result }
+    requires { IfSome selection (λ o. length operands.now ≡ operand_count_of o) }
+    ensures { IsAnswer (selection_faults selection (lent_in operands.now)) (HasSelected selection (lent_in operands.now)) result }
 {
     match selection {
-        Some(known) => of_block!(kept, block => made_kept(alloc, known, block)),
+        Some(known) => select_known(alloc, known, operands),
         None => Err(Fault::Test),
     }
 }

@@ -1,30 +1,16 @@
-//! Operations on one kept matrix, as values.
-ghost use Rattle.std.specs.Prelude.{◌≡◌};
-ghost use Rattle.cb_kept.specs.KeptSelections.{region_of, function_of};
+//! The selections that C names by numbers.
+ghost use Rattle.std.specs.Prelude.{◌≡◌, IfSome};
+ghost use Rattle.cb_operations.specs.SelectionAnswers.{operand_count_of};
+ghost use Rattle.cb_kept.specs.KeptSelections.{IsPowerOf, region_of, function_of};
 
-use cb_operations::{Diagonal, Function, Region};
-
-/// An operation on one kept matrix.
-#[derive(Clone, Copy)]
-pub enum Selection {
-    /// The entries in a region.
-    Select(Region),
-    /// A function of each entry in place of its value.
-    Apply(Function),
-    /// The diagonal, in one column.
-    Diagonal,
-    /// The square matrix with a column on its diagonal.
-    DiagonalMatrix,
-    /// The part in a range of rows and a range of columns, each from the first number up to, but not including, the second.
-    Part((u32, u32), (u32, u32)),
-    /// The power with this many factors.
-    Power(u32),
-}
+use cb_operations::{Diagonal, Function, Region, Selection};
+use std::num::NonZeroU32;
 
 /// Returns the selection of the region of a number, by a place on its diagonal: 0 for the lower and 1 for the upper triangle,
 /// 2 for the diagonal, 3 for all places off it. No other number has a region.
 pub fn region_of(region: u32, row: u32, column: u32) -> Option<Selection>
-    ensures { result ≡ region_of region row column }
+    ensures selection { result ≡ region_of region row column }
+    ensures count { IfSome result (λ o. 1 ≡ operand_count_of o) }
 {
     let diagonal = Diagonal { row, column };
     match region {
@@ -40,7 +26,8 @@ pub fn region_of(region: u32, row: u32, column: u32) -> Option<Selection>
 /// sum with each value, 2 and 3 for the product from the left and from the right, 4 and 5 for the row and the column of the
 /// entry. No other number has a function.
 pub fn function_of(function: u32, number: u64) -> Option<Selection>
-    ensures { result ≡ function_of function number }
+    ensures selection { result ≡ function_of function number }
+    ensures count { IfSome result (λ o. 1 ≡ operand_count_of o) }
 {
     match function {
         0 => Some(Selection::Apply(Function::Constant(number))),
@@ -50,5 +37,16 @@ pub fn function_of(function: u32, number: u64) -> Option<Selection>
         4 => Some(Selection::Apply(Function::Row)),
         5 => Some(Selection::Apply(Function::Column)),
         _ => None,
+    }
+}
+
+/// Returns the power with this many factors. There is none with 0.
+pub fn power_of(factors: u32) -> Option<Selection>
+    ensures selection { IsPowerOf factors result }
+    ensures count { IfSome result (λ o. 1 ≡ operand_count_of o) }
+{
+    match NonZeroU32::new(factors) {
+        Some(factors) => Some(Selection::Power(factors)),
+        None => None,
     }
 }

@@ -98,7 +98,7 @@ class CbgridError(Exception):
     Attributes
     ----------
     code : int
-        The code of cbgrid.h, 1 to 15.
+        The code of cbgrid.h, 1 to 16.
     message : str
         The code in a few words.
     line : int or None

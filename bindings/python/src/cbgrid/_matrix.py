@@ -559,7 +559,7 @@ class Matrix:
         ----------
         values : list or numpy array of one dimension, or Matrix or scipy.sparse matrix of one column
             Of bool or any integer type. Each element of an array that isn't the semiring's zero becomes an entry. A
-            matrix that doesn't have one column raises a CbgridValueError with code 10.
+            matrix that doesn't have one column raises a CbgridValueError with code 16.
         semiring
             As in `Matrix`.
 
@@ -570,7 +570,7 @@ class Matrix:
         Raises
         ------
         CbgridValueError
-            Code 10, as above.
+            Code 16, as above.
 
         Examples
         --------

@@ -1,19 +1,18 @@
+use Rattle.std.proofs.Common.{rules, ◌<◌, length}
+use Rattle.cb_kept.proofs.KeptFirsts.{over_at}
 use Rattle.cb_kept.proofs.kept_selections.made.Goals as goal
 
-pub returns-in-Select : goal.returns-in-Select
-returns-in-Select g c = rw c.in-Select.is c.in_region.ensures
+pub block_in-requires : goal.block_in-requires
+block_in-requires g c =
+    let l : 0 < length c.args.operands.now = search rules in
+    over_at g.S.Keep.name c.args.operands.now 0 c.a-item.result c.a-item.result c.a-item.is c.requires.over l
 
-pub returns-in-Apply : goal.returns-in-Apply
-returns-in-Apply g c = rw c.in-Apply.is c.replaced.ensures
+pub block_in-requires-in-len2 : goal.block_in-requires-in-len2
+block_in-requires-in-len2 g c =
+    let l : 0 < length c.args.operands.now = search rules in
+    over_at g.S.Keep.name c.args.operands.now 0 c.a-item-then-operands-lt3.result c.a-item-then-operands-lt3.result c.a-item-then-operands-lt3.is c.requires.over l
 
-pub returns-in-Diagonal : goal.returns-in-Diagonal
-returns-in-Diagonal g c = rw c.in-Diagonal.is c.diagonal_column.ensures
-
-pub returns-in-DiagonalMatrix : goal.returns-in-DiagonalMatrix
-returns-in-DiagonalMatrix g c = rw c.in-DiagonalMatrix.is c.on_diagonal.ensures
-
-pub returns-in-Part : goal.returns-in-Part
-returns-in-Part g c = rw c.in-Part.is c.part.ensures
-
-pub returns-in-Power : goal.returns-in-Power
-returns-in-Power g c = rw c.in-Power.is c.power_of.ensures
+pub block_in-requires-in-len2-2 : goal.block_in-requires-in-len2-2
+block_in-requires-in-len2-2 g c =
+    let l : 1 < length c.args.operands.now = search rules in
+    over_at g.S.Keep.name c.args.operands.now 1 c.b-item.result c.b-item.result c.b-item.is c.requires.over l
