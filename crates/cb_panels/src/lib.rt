@@ -143,7 +143,8 @@ fn make_panels<S: Semiring + Send + Sync, R: Threads + Sync>(
             ensures { IfOk result (λ m. m ≡ product S.arithmetic left.entry.now (only_columns last.entry.now right.entry.now)) }
         { make_panels::<S, R>(rt, alloc, left, index, right, last, last_counts, rest) },
     );
-    let (mut front, mut back) = (front?, back?);
+    let mut front = front?;
+    let mut back = back?;
     front.append(alloc, &mut back)?;
     Ok(front)
 }

@@ -1,6 +1,5 @@
-use Rattle.std.proofs.Common.{rules, ◌≡◌, ◌<◌, ◌++◌, subst}
-use Rattle.std.specs.Prelude.{IfOk, AllPairs}
-use Rattle.cb_matrix.specs.Sparse.{Sparse}
+use Rattle.std.proofs.Common.{rules, ◌≡◌, ◌<◌, ◌++◌, subst, ◌∙◌}
+use Rattle.std.specs.Prelude.{AllPairs}
 use Rattle.cb_matrix.specs.Values.{product}
 use Rattle.cb_product.specs.InColumns.{only_columns}
 use Rattle.cb_product.proofs.Panels.{both_matrix, both_joined}
@@ -33,4 +32,4 @@ returns g t c =
     let first : c.in_ok-front.front ≡ product s a (only_columns xs b) = search rules in
     let last : c.in_ok-back.back ≡ product s a (only_columns ys b) = search rules in
     let both = both_joined s laws a b c.shape.ensures.matrix c.shape-2.ensures.matrix c.requires.agree xs ys up c.args.columns.now all c.in_ok-front.front c.in_ok-back.back first last in
-    subst (λ (m : Sparse). IfOk c.append.result (λ n. n ≡ m)) both c.append.ensures
+    c.in_ok-append.ensures.ok ∙ both
