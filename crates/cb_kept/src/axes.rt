@@ -7,10 +7,11 @@ ghost use Rattle.cb_kept.specs.KeptDegrees.{degrees_of, IsKeptDegrees};
 ghost use Rattle.cb_kept.specs.Refusals.{IsMemory};
 
 use crate::faults::Fault;
-use crate::keeping::Keep;
-use crate::kept::{Kept, of_block};
+use crate::keeping::keep_block;
+use crate::kept::{Kept, of_matrix};
 use cb_dcsc::Block;
 use cb_graphs::{column_degrees, row_degrees};
+use cb_layout::PanelledMatrix;
 use cb_semirings::{PlusTimes, Semiring};
 use std::alloc::{AllocError, Global};
 
@@ -36,11 +37,16 @@ fn degrees<S: Semiring>(
 }
 
 /// The same, kept.
-fn degrees_kept<S: Semiring>(alloc: Global, axis: Axis, block: &Block<S>) -> Result<Kept, Fault>
-    ensures { IsAnswer IsMemory (Keeps name_is.PlusTimes (degrees_of axis S.arithmetic block.now)) result }
+fn degrees_kept<S: Semiring>(
+    alloc: Global,
+    axis: Axis,
+    matrix: &PanelledMatrix<S>,
+) -> Result<Kept, Fault>
+    ensures { IsAnswer IsMemory (Keeps name_is.PlusTimes (degrees_of axis S.arithmetic matrix.now)) result }
 {
-    let mut column = degrees(alloc, axis, block)?;
-    Ok(PlusTimes::keep(alloc, &mut column))
+    let whole = matrix.whole()?;
+    let column = degrees(alloc, axis, whole.block())?;
+    Ok(keep_block::<PlusTimes>(alloc, column))
 }
 
 /// Keeps, in one column over plus-times, how many entries each row or column of a kept matrix has.
@@ -48,5 +54,5 @@ fn degrees_kept<S: Semiring>(alloc: Global, axis: Axis, block: &Block<S>) -> Res
 pub fn kept_degrees(alloc: Global, axis: Axis, kept: &Kept) -> Result<Kept, Fault>
     ensures { IsAnswer IsMemory (IsKeptDegrees axis kept.now) result }
 {
-    of_block!(kept, block => degrees_kept(alloc, axis, block))
+    of_matrix!(kept, matrix => degrees_kept(alloc, axis, matrix))
 }

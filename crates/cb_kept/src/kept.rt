@@ -1,4 +1,4 @@
-//! A kept matrix: a block over any of the semirings, as one type.
+//! A kept matrix: a matrix in panels over any of the semirings, as one type.
 #![tactic(auto, unfolding(crate::specs::Kept::semiring_of, crate::specs::Kept::matrix_in))]
 
 ghost use Rattle.std.specs.Prelude.{◌≡◌, [], length, Some};
@@ -6,6 +6,7 @@ ghost use Rattle.cb_semirings.specs.Names.{numbered};
 ghost use Rattle.cb_kept.specs.Kept.{semiring_of, matrix_in};
 
 use cb_dcsc::Block;
+use cb_layout::PanelledMatrix;
 use cb_matrix::Shape;
 use cb_semirings::{
     MaxFirst, MaxMin, MaxPlus, MaxSecond, MinFirst, MinMax, MinPlus, MinSecond, OrAnd, PlusFirst,
@@ -13,48 +14,48 @@ use cb_semirings::{
 };
 use std::alloc::Global;
 
-/// A block over one of the semirings.
+/// A matrix over one of the semirings, in panels. What one thread makes has one panel.
 #[derive(Drop)]
 pub enum Kept {
-    PlusTimes(Block<PlusTimes>),
-    MinPlus(Block<MinPlus>),
-    OrAnd(Block<OrAnd>),
-    MaxMin(Block<MaxMin>),
-    PlusPair(Block<PlusPair>),
-    PlusMin(Block<PlusMin>),
-    PlusFirst(Block<PlusFirst>),
-    PlusSecond(Block<PlusSecond>),
-    MinFirst(Block<MinFirst>),
-    MinSecond(Block<MinSecond>),
-    MaxFirst(Block<MaxFirst>),
-    MaxSecond(Block<MaxSecond>),
-    MaxPlus(Block<MaxPlus>),
-    MinMax(Block<MinMax>),
+    PlusTimes(PanelledMatrix<PlusTimes>),
+    MinPlus(PanelledMatrix<MinPlus>),
+    OrAnd(PanelledMatrix<OrAnd>),
+    MaxMin(PanelledMatrix<MaxMin>),
+    PlusPair(PanelledMatrix<PlusPair>),
+    PlusMin(PanelledMatrix<PlusMin>),
+    PlusFirst(PanelledMatrix<PlusFirst>),
+    PlusSecond(PanelledMatrix<PlusSecond>),
+    MinFirst(PanelledMatrix<MinFirst>),
+    MinSecond(PanelledMatrix<MinSecond>),
+    MaxFirst(PanelledMatrix<MaxFirst>),
+    MaxSecond(PanelledMatrix<MaxSecond>),
+    MaxPlus(PanelledMatrix<MaxPlus>),
+    MinMax(PanelledMatrix<MinMax>),
 }
 
-/// What is made of the block of a kept matrix, over any semiring.
-macro_rules! of_block {
-    ($kept:expr, $block:ident => $made:expr) => {
+/// What is made of a kept matrix, over any semiring.
+macro_rules! of_matrix {
+    ($kept:expr, $matrix:ident => $made:expr) => {
         match $kept {
-            Kept::PlusTimes($block) => $made,
-            Kept::MinPlus($block) => $made,
-            Kept::OrAnd($block) => $made,
-            Kept::MaxMin($block) => $made,
-            Kept::PlusPair($block) => $made,
-            Kept::PlusMin($block) => $made,
-            Kept::PlusFirst($block) => $made,
-            Kept::PlusSecond($block) => $made,
-            Kept::MinFirst($block) => $made,
-            Kept::MinSecond($block) => $made,
-            Kept::MaxFirst($block) => $made,
-            Kept::MaxSecond($block) => $made,
-            Kept::MaxPlus($block) => $made,
-            Kept::MinMax($block) => $made,
+            Kept::PlusTimes($matrix) => $made,
+            Kept::MinPlus($matrix) => $made,
+            Kept::OrAnd($matrix) => $made,
+            Kept::MaxMin($matrix) => $made,
+            Kept::PlusPair($matrix) => $made,
+            Kept::PlusMin($matrix) => $made,
+            Kept::PlusFirst($matrix) => $made,
+            Kept::PlusSecond($matrix) => $made,
+            Kept::MinFirst($matrix) => $made,
+            Kept::MinSecond($matrix) => $made,
+            Kept::MaxFirst($matrix) => $made,
+            Kept::MaxSecond($matrix) => $made,
+            Kept::MaxPlus($matrix) => $made,
+            Kept::MinMax($matrix) => $made,
         }
     };
 }
 
-pub(crate) use of_block;
+pub(crate) use of_matrix;
 
 impl Kept {
     /// The semiring of the matrix.
@@ -62,20 +63,20 @@ impl Kept {
         ensures { result ≡ semiring_of self.now }
     {
         match self {
-            Kept::PlusTimes(_block) => SemiringName::PlusTimes,
-            Kept::MinPlus(_block) => SemiringName::MinPlus,
-            Kept::OrAnd(_block) => SemiringName::OrAnd,
-            Kept::MaxMin(_block) => SemiringName::MaxMin,
-            Kept::PlusPair(_block) => SemiringName::PlusPair,
-            Kept::PlusMin(_block) => SemiringName::PlusMin,
-            Kept::PlusFirst(_block) => SemiringName::PlusFirst,
-            Kept::PlusSecond(_block) => SemiringName::PlusSecond,
-            Kept::MinFirst(_block) => SemiringName::MinFirst,
-            Kept::MinSecond(_block) => SemiringName::MinSecond,
-            Kept::MaxFirst(_block) => SemiringName::MaxFirst,
-            Kept::MaxSecond(_block) => SemiringName::MaxSecond,
-            Kept::MaxPlus(_block) => SemiringName::MaxPlus,
-            Kept::MinMax(_block) => SemiringName::MinMax,
+            Kept::PlusTimes(_matrix) => SemiringName::PlusTimes,
+            Kept::MinPlus(_matrix) => SemiringName::MinPlus,
+            Kept::OrAnd(_matrix) => SemiringName::OrAnd,
+            Kept::MaxMin(_matrix) => SemiringName::MaxMin,
+            Kept::PlusPair(_matrix) => SemiringName::PlusPair,
+            Kept::PlusMin(_matrix) => SemiringName::PlusMin,
+            Kept::PlusFirst(_matrix) => SemiringName::PlusFirst,
+            Kept::PlusSecond(_matrix) => SemiringName::PlusSecond,
+            Kept::MinFirst(_matrix) => SemiringName::MinFirst,
+            Kept::MinSecond(_matrix) => SemiringName::MinSecond,
+            Kept::MaxFirst(_matrix) => SemiringName::MaxFirst,
+            Kept::MaxSecond(_matrix) => SemiringName::MaxSecond,
+            Kept::MaxPlus(_matrix) => SemiringName::MaxPlus,
+            Kept::MinMax(_matrix) => SemiringName::MinMax,
         }
     }
 
@@ -84,20 +85,20 @@ impl Kept {
         ensures { numbered result ≡ Some (semiring_of self.now) }
     {
         match self {
-            Kept::PlusTimes(_block) => 0,
-            Kept::MinPlus(_block) => 1,
-            Kept::OrAnd(_block) => 2,
-            Kept::MaxMin(_block) => 3,
-            Kept::PlusPair(_block) => 4,
-            Kept::PlusMin(_block) => 5,
-            Kept::PlusFirst(_block) => 6,
-            Kept::PlusSecond(_block) => 7,
-            Kept::MinFirst(_block) => 8,
-            Kept::MinSecond(_block) => 9,
-            Kept::MaxFirst(_block) => 10,
-            Kept::MaxSecond(_block) => 11,
-            Kept::MaxPlus(_block) => 12,
-            Kept::MinMax(_block) => 13,
+            Kept::PlusTimes(_matrix) => 0,
+            Kept::MinPlus(_matrix) => 1,
+            Kept::OrAnd(_matrix) => 2,
+            Kept::MaxMin(_matrix) => 3,
+            Kept::PlusPair(_matrix) => 4,
+            Kept::PlusMin(_matrix) => 5,
+            Kept::PlusFirst(_matrix) => 6,
+            Kept::PlusSecond(_matrix) => 7,
+            Kept::MinFirst(_matrix) => 8,
+            Kept::MinSecond(_matrix) => 9,
+            Kept::MaxFirst(_matrix) => 10,
+            Kept::MaxSecond(_matrix) => 11,
+            Kept::MaxPlus(_matrix) => 12,
+            Kept::MinMax(_matrix) => 13,
         }
     }
 
@@ -105,14 +106,14 @@ impl Kept {
     pub(crate) fn shape(&self) -> Shape
         ensures { result ≡ (matrix_in self.now).shape }
     {
-        of_block!(self, block => block.shape())
+        of_matrix!(self, matrix => matrix.shape())
     }
 
     /// How many entries the matrix has.
     pub(crate) fn len(&self) -> usize
         ensures { result ≡ length (matrix_in self.now).entries }
     {
-        of_block!(self, block => block.len())
+        of_matrix!(self, matrix => matrix.len())
     }
 
     /// Frees the lists of the matrix, and leaves one without rows, columns and entries.
@@ -120,6 +121,6 @@ impl Kept {
         ensures { matrix_in self.new ≡ record { shape = record { rows = 0; cols = 0 }; entries = [] } }
     {
         let nothing = Block::<PlusTimes>::empty(alloc, Shape::new(0, 0).unwrap());
-        *self = Kept::PlusTimes(nothing);
+        *self = Kept::PlusTimes(PanelledMatrix::from_block(alloc, nothing));
     }
 }

@@ -12,7 +12,7 @@ ghost use Rattle.cb_kept.specs.KeptGraphs.{kept_graph_faults};
 use crate::faults::Fault;
 use crate::keeping::Keep;
 use crate::kept::Kept;
-use cb_dcsc::Block;
+use cb_layout::PanelledMatrix;
 use cb_matrix::Shape;
 use cb_operations::Operation;
 use cb_semirings::SemiringName;
@@ -85,14 +85,14 @@ pub(crate) fn common_semiring(
     Ok(semiring)
 }
 
-/// The block of a square graph over a semiring, or else the first fault.
+/// The panels of a square graph over a semiring, or else the first fault.
 #[tactic(auto, using(crate::proofs::KeptGraphFaults::other_semiring, crate::proofs::KeptGraphFaults::other_sides))]
-pub(crate) fn square_in<S: Keep>(kept: &Kept) -> Result<&Block<S>, Fault>
+pub(crate) fn square_in<S: Keep>(kept: &Kept) -> Result<&PanelledMatrix<S>, Fault>
     ensures graph { IfOk result (λ graph. Keeps S.name graph.now kept.now) }
     ensures square { IfOk result (λ graph. graph.now.shape.rows ≡ graph.now.shape.cols) }
     ensures fault { IfErr result (kept_graph_faults S.name kept.now (λ _ _. ⊥)) }
 {
-    let Some(graph) = S::block_of(kept) else {
+    let Some(graph) = S::panels_of(kept) else {
         return Err(Fault::Mixed);
     };
     let shape = graph.shape();

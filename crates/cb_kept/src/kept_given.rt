@@ -10,20 +10,20 @@ use crate::keeping::Keep;
 use crate::kept::Kept;
 use crate::kept_checks::square_in;
 use crate::kept_walks::keep_column;
-use cb_dcsc::Block;
+use cb_layout::PanelledMatrix;
 use cb_matrix::Shape;
 use cb_searches::{Walks, column_shape};
 use cb_semirings::MinPlus;
 use std::alloc::{AllocError, Global};
 
-/// The block of a column over min-plus with a place for each vertex of a graph, or else the first fault.
-fn column_in(graph: Shape, given: &Kept) -> Result<&Block<MinPlus>, Fault>
+/// The panels of a column over min-plus with a place for each vertex of a graph, or else the first fault.
+fn column_in(graph: Shape, given: &Kept) -> Result<&PanelledMatrix<MinPlus>, Fault>
     ensures column { IfOk result (λ column. column.now ≡ matrix_in given.now) }
     ensures shape { IfOk result (λ column. column.now.shape ≡ record { rows = graph.rows; cols = 1 }) }
     ensures none { IfOk result (λ _. NoFault (column_faults graph given.now)) }
     ensures fault { IfErr result (column_faults graph given.now) }
 {
-    let Some(column) = MinPlus::block_of(given) else {
+    let Some(column) = MinPlus::panels_of(given) else {
         return Err(Fault::Mixed);
     };
     if column.shape() != column_shape(graph) {
@@ -32,11 +32,11 @@ fn column_in(graph: Shape, given: &Kept) -> Result<&Block<MinPlus>, Fault>
     Ok(column)
 }
 
-/// The blocks of a square graph over a semiring, and of the initial values of its vertices; or else the first fault.
-fn blocks_in<'a, S: Keep>(
+/// The panels of a square graph over a semiring, and of the initial values of its vertices; or else the first fault.
+fn panels_in<'a, S: Keep>(
     graph: &'a Kept,
     given: &'a Kept,
-) -> Result<(&'a Block<S>, &'a Block<MinPlus>), Fault>
+) -> Result<(&'a PanelledMatrix<S>, &'a PanelledMatrix<MinPlus>), Fault>
     ensures graph { IfOk result (λ both. both.0.now ≡ matrix_in graph.now) }
     ensures given { IfOk result (λ both. both.1.now ≡ matrix_in given.now) }
     ensures square { IfOk result (λ both. both.0.now.shape.rows ≡ both.0.now.shape.cols) }
@@ -44,22 +44,24 @@ fn blocks_in<'a, S: Keep>(
     ensures none { IfOk result (λ _. NoFault (given_faults S.name graph.now given.now)) }
     ensures fault { IfErr result (given_faults S.name graph.now given.now) }
 {
-    let block = square_in::<S>(graph)?;
-    let column = column_in(block.shape(), given)?;
-    Ok((block, column))
+    let panels = square_in::<S>(graph)?;
+    let column = column_in(panels.shape(), given)?;
+    Ok((panels, column))
 }
 
 /// The column of numbers from initial values, kept.
 fn number_column<S: Walks>(
     alloc: Global,
-    graph: &Block<S>,
-    given: &Block<MinPlus>,
+    graph: &PanelledMatrix<S>,
+    given: &PanelledMatrix<MinPlus>,
 ) -> Result<Kept, AllocError>
     requires square { graph.now.shape.rows ≡ graph.now.shape.cols }
     requires column { given.now.shape ≡ column_shape graph.now }
     ensures { IfOk result (IsKeptColumn (S.are_given graph.now given.now)) }
 {
-    let column = S::numbers_given(alloc, graph, given)?;
+    let whole = graph.whole()?;
+    let values = given.whole()?;
+    let column = S::numbers_given(alloc, whole.block(), values.block())?;
     keep_column(alloc, &column)
 }
 
@@ -72,6 +74,6 @@ pub fn kept_numbers_given<S: Walks + Keep>(
 ) -> Result<Kept, Fault>
     ensures { IsAnswer (given_faults S.name graph.now given.now) (IsKeptColumn (S.are_given (matrix_in graph.now) (matrix_in given.now))) result }
 {
-    let (block, column) = blocks_in::<S>(graph, given)?;
-    Ok(number_column(alloc, block, column)?)
+    let (panels, column) = panels_in::<S>(graph, given)?;
+    Ok(number_column(alloc, panels, column)?)
 }

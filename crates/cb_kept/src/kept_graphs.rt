@@ -11,17 +11,22 @@ use crate::faults::Fault;
 use crate::kept::Kept;
 use crate::kept_checks::square_in;
 use crate::kept_walks::{graph_in, keep_column};
-use cb_dcsc::Block;
+use cb_layout::PanelledMatrix;
 use cb_semirings::OrAnd;
 use std::alloc::{AllocError, Global};
 
 /// The column of the least parents in a breadth-first search from a source, kept.
-fn parent_column(alloc: Global, graph: &Block<OrAnd>, source: u32) -> Result<Kept, AllocError>
+fn parent_column(
+    alloc: Global,
+    graph: &PanelledMatrix<OrAnd>,
+    source: u32,
+) -> Result<Kept, AllocError>
     requires square { graph.now.shape.rows ≡ graph.now.shape.cols }
     requires source { source < graph.now.shape.rows }
     ensures { IfOk result (IsKeptParents graph.now source) }
 {
-    let column = cb_searches::parents(alloc, graph, source)?;
+    let whole = graph.whole()?;
+    let column = cb_searches::parents(alloc, whole.block(), source)?;
     keep_column(alloc, &column)
 }
 
@@ -30,27 +35,28 @@ fn parent_column(alloc: Global, graph: &Block<OrAnd>, source: u32) -> Result<Kep
 pub fn kept_parents(alloc: Global, graph: &Kept, source: u32) -> Result<Kept, Fault>
     ensures { IsAnswer (search_faults name_is.OrAnd graph.now source) (IsKeptParents (matrix_in graph.now) source) result }
 {
-    let block = graph_in::<OrAnd>(graph, source)?;
-    Ok(parent_column(alloc, block, source)?)
+    let panels = graph_in::<OrAnd>(graph, source)?;
+    Ok(parent_column(alloc, panels, source)?)
 }
 
-/// The block of a square graph over or-and, or else the first fault.
-fn square_block(graph: &Kept) -> Result<&Block<OrAnd>, Fault>
-    ensures graph { IfOk result (λ block. block.now ≡ matrix_in graph.now) }
-    ensures square { IfOk result (λ block. block.now.shape.rows ≡ block.now.shape.cols) }
+/// The panels of a square graph over or-and, or else the first fault.
+fn square_panels(graph: &Kept) -> Result<&PanelledMatrix<OrAnd>, Fault>
+    ensures graph { IfOk result (λ panels. panels.now ≡ matrix_in graph.now) }
+    ensures square { IfOk result (λ panels. panels.now.shape.rows ≡ panels.now.shape.cols) }
     ensures none { IfOk result (λ _. NoFault (square_faults graph.now)) }
     ensures fault { IfErr result (square_faults graph.now) }
 {
-    let block = square_in::<OrAnd>(graph)?;
-    Ok(block)
+    let panels = square_in::<OrAnd>(graph)?;
+    Ok(panels)
 }
 
 /// The column of the least vertex of each component, kept.
-fn component_column(alloc: Global, graph: &Block<OrAnd>) -> Result<Kept, AllocError>
+fn component_column(alloc: Global, graph: &PanelledMatrix<OrAnd>) -> Result<Kept, AllocError>
     requires { graph.now.shape.rows ≡ graph.now.shape.cols }
     ensures { IfOk result (IsKeptComponents graph.now) }
 {
-    let column = cb_graphs::components(alloc, graph)?;
+    let whole = graph.whole()?;
+    let column = cb_graphs::components(alloc, whole.block())?;
     keep_column(alloc, &column)
 }
 
@@ -59,8 +65,8 @@ fn component_column(alloc: Global, graph: &Block<OrAnd>) -> Result<Kept, AllocEr
 pub fn kept_components(alloc: Global, graph: &Kept) -> Result<Kept, Fault>
     ensures { IsAnswer (square_faults graph.now) (IsKeptComponents (matrix_in graph.now)) result }
 {
-    let block = square_block(graph)?;
-    Ok(component_column(alloc, block)?)
+    let panels = square_panels(graph)?;
+    Ok(component_column(alloc, panels)?)
 }
 
 /// Returns the number of triangles of a graph over or-and, at most 2^64 - 1: the sets of three vertices that are joined to
@@ -68,6 +74,6 @@ pub fn kept_components(alloc: Global, graph: &Kept) -> Result<Kept, Fault>
 pub fn kept_triangles(alloc: Global, graph: &Kept) -> Result<u64, Fault>
     ensures { IsAnswer (square_faults graph.now) (λ n. n ≡ stopped (triangle_count (matrix_in graph.now))) result }
 {
-    let block = square_block(graph)?;
-    Ok(cb_graphs::triangles(alloc, block)?)
+    let whole = square_panels(graph)?.whole()?;
+    Ok(cb_graphs::triangles(alloc, whole.block())?)
 }

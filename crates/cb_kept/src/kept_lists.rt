@@ -7,9 +7,9 @@ ghost use Rattle.cb_kept.specs.KeptAnswers.{IsKeptAnswerOver, IsKeptOf};
 
 use crate::checks::check_lists;
 use crate::faults::Fault;
-use crate::keeping::Keep;
-use crate::kept::{Kept, of_block};
-use cb_dcsc::Block;
+use crate::keeping::{Keep, keep_block};
+use crate::kept::{Kept, of_matrix};
+use cb_layout::PanelledMatrix;
 use cb_lists::{Columns, block_lists, block_of};
 use cb_semirings::{Semiring, SemiringName, over_semiring};
 use std::alloc::Global;
@@ -19,8 +19,8 @@ fn keep_over<S: Keep>(alloc: Global, a: &Columns) -> Result<Kept, Fault>
     ensures { IsAnswer (list_faults S.arithmetic a.now) (IsKeptOf S.arithmetic S.name a.now) result }
 {
     check_lists::<S>(a)?;
-    let mut block = block_of::<S>(alloc, a)?;
-    Ok(S::keep(alloc, &mut block))
+    let block = block_of::<S>(alloc, a)?;
+    Ok(keep_block::<S>(alloc, block))
 }
 
 /// Keeps the matrix of lists, over the semiring of a number. The entries are copied once.
@@ -33,11 +33,14 @@ pub fn keep_lists(alloc: Global, semiring: u32, a: &Columns) -> Result<Kept, Fau
     }
 }
 
-/// A copy of the lists of a block.
-fn copied_lists<S: Semiring>(alloc: Global, block: &Block<S>) -> Result<Columns<'static>, Fault>
-    ensures { IsAnswer IsMemory (HasLists block.now) result }
+/// A copy of the lists of a matrix.
+fn copied_lists<S: Semiring>(
+    alloc: Global,
+    matrix: &PanelledMatrix<S>,
+) -> Result<Columns<'static>, Fault>
+    ensures { IsAnswer IsMemory (HasLists matrix.now) result }
 {
-    let copy = block.try_clone()?;
+    let copy = matrix.to_block()?;
     Ok(block_lists(alloc, copy)?)
 }
 
@@ -46,5 +49,5 @@ fn copied_lists<S: Semiring>(alloc: Global, block: &Block<S>) -> Result<Columns<
 pub fn lists_of(alloc: Global, kept: &Kept) -> Result<Columns<'static>, Fault>
     ensures { IsAnswer IsMemory (HasLists (matrix_in kept.now)) result }
 {
-    of_block!(kept, block => copied_lists(alloc, block))
+    of_matrix!(kept, matrix => copied_lists(alloc, matrix))
 }

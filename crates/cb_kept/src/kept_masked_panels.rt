@@ -10,10 +10,10 @@ ghost use Rattle.cb_kept.specs.KeptPanels.{allowed_by, masked_panel_in, IsKeptMa
 ghost use Rattle.cb_kept.specs.KeptProducts.{outside_faults};
 
 use crate::faults::Fault;
-use crate::keeping::Keep;
+use crate::keeping::{Keep, keep_block};
 use crate::kept::Kept;
 use crate::kept_checks::common_semiring;
-use crate::kept_operations::block_in;
+use crate::kept_operations::whole_in;
 use cb_dcsc::Block;
 use cb_operations::Operation;
 use cb_semirings::{Semiring, SemiringName, over_semiring};
@@ -64,9 +64,11 @@ fn panel_over<S: Keep>(
     requires shape { (matrix_in mask.now).shape ≡ product_shape (matrix_in left.now) (matrix_in right.now) }
     ensures { IfOk result (Keeps S.name (masked_panel_in allowed first end S.arithmetic left.now right.now mask.now)) }
 {
-    let (a, b) = (block_in::<S>(left), block_in::<S>(right));
-    let mut block = allowed_panel(alloc, allowed, a, b, block_in::<S>(mask), first, end)?;
-    Ok(S::keep(alloc, &mut block))
+    let a = whole_in::<S>(left)?;
+    let b = whole_in::<S>(right)?;
+    let m = whole_in::<S>(mask)?;
+    let block = allowed_panel(alloc, allowed, a.block(), b.block(), m.block(), first, end)?;
+    Ok(keep_block::<S>(alloc, block))
 }
 
 /// The same, over the semiring of a name.

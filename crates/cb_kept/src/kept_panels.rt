@@ -10,13 +10,13 @@ ghost use Rattle.cb_kept.specs.Kept.{Keeps, semiring_of, matrix_in};
 ghost use Rattle.cb_kept.specs.KeptPanels.{factor_faults, join_faults, IsKeptJoin, IsKeptPanel};
 
 use crate::faults::Fault;
-use crate::keeping::Keep;
+use crate::keeping::{Keep, keep_block};
 use crate::kept::Kept;
-use crate::kept_operations::block_in;
-use cb_dcsc::Block;
+use crate::kept_operations::{panels_in, whole_in};
+use cb_layout::PanelledMatrix;
 use cb_product::LEAST_PRODUCTS;
 use cb_semirings::{Semiring, SemiringName, over_semiring};
-use cb_shares::{are_before, ends_of, join, multiply_panel};
+use cb_shares::{are_before, ends_of, join, product_columns};
 use std::alloc::{AllocError, Global};
 
 /// Refuses two matrices over different semirings, and shapes that have no product.
@@ -47,8 +47,9 @@ fn ends_over<S: Keep>(
     requires agree { (matrix_in left.now).shape.cols ≡ (matrix_in right.now).shape.rows }
     ensures { IfOk result (λ ends. AreEnds count (matrix_in right.now).shape.cols ends.items) }
 {
-    let (a, b) = (block_in::<S>(left), block_in::<S>(right));
-    ends_of(alloc, a, b, count, LEAST_PRODUCTS)
+    let a = whole_in::<S>(left)?;
+    let b = whole_in::<S>(right)?;
+    ends_of(alloc, a.block(), b.block(), count, LEAST_PRODUCTS)
 }
 
 /// The same, over the semiring of a name.
@@ -90,9 +91,9 @@ fn panel_over<S: Keep>(
     requires agree { (matrix_in left.now).shape.cols ≡ (matrix_in right.now).shape.rows }
     ensures { IfOk result (Keeps S.name (panel (product S.arithmetic (matrix_in left.now) (matrix_in right.now)) first end)) }
 {
-    let (a, b) = (block_in::<S>(left), block_in::<S>(right));
-    let mut block = multiply_panel(alloc, a, b, first, end)?;
-    Ok(S::keep(alloc, &mut block))
+    let (a, b) = (panels_in::<S>(left), panels_in::<S>(right));
+    let block = product_columns(alloc, a, b, first, end)?;
+    Ok(keep_block::<S>(alloc, block))
 }
 
 /// The same, over the semiring of a name.
@@ -133,7 +134,7 @@ fn are_before_over<S: Keep>(front: &Kept, back: &Kept) -> bool
     requires back { semiring_of back.now ≡ S.name }
     ensures { IsTrue result ↔ AreBefore (matrix_in front.now).entries (matrix_in back.now).entries }
 {
-    are_before(block_in::<S>(front), block_in::<S>(back))
+    are_before(panels_in::<S>(front), panels_in::<S>(back))
 }
 
 /// The same, over the semiring of a name.
@@ -165,13 +166,13 @@ fn check_join(front: &Kept, back: &Kept) -> Result<(), Fault>
     Ok(())
 }
 
-/// The block of a kept matrix over a semiring, taken out of it.
-fn taken_from<S: Keep>(alloc: Global, kept: &mut Kept) -> Block<S>
+/// The panels of a kept matrix over a semiring, taken out of it.
+fn taken_from<S: Keep>(alloc: Global, kept: &mut Kept) -> PanelledMatrix<S>
     requires { semiring_of kept.old ≡ S.name }
     ensures { result ≡ matrix_in kept.old }
 {
     match S::take(alloc, kept) {
-        Some(block) => block,
+        Some(panels) => panels,
         None => unreachable!(),
     }
 }
@@ -190,14 +191,18 @@ fn join_over<S: Keep>(alloc: Global, front: &mut Kept, back: &mut Kept) -> Resul
 {
     let mut first = taken_from::<S>(alloc, front);
     let mut last = taken_from::<S>(alloc, back);
-    let joined = join_blocks(&mut first, &mut last);
+    let joined = join_panels(alloc, &mut first, &mut last);
     *front = S::keep(alloc, &mut first);
     *back = S::keep(alloc, &mut last);
     joined
 }
 
-/// Appends the entries of a block to those of another of its shape, in which all columns are before its own.
-fn join_blocks<S: Semiring>(front: &mut Block<S>, back: &mut Block<S>) -> Result<(), AllocError>
+/// Appends the panels of a matrix to those of another of its shape, in which all columns are before its own.
+fn join_panels<S: Semiring>(
+    alloc: Global,
+    front: &mut PanelledMatrix<S>,
+    back: &mut PanelledMatrix<S>,
+) -> Result<(), AllocError>
     requires shapes { back.old.shape ≡ front.old.shape }
     requires before { AreBefore front.old.entries back.old.entries }
     ensures entries { OnOk result (front.new ≡ with_entries front.old back.old.entries) }
@@ -207,7 +212,7 @@ fn join_blocks<S: Semiring>(front: &mut Block<S>, back: &mut Block<S>) -> Result
     ensures back { OnErr result (back.new ≡ back.old) }
 {
     prove_eq!(back.shape(), front.shape());
-    join(front, back)
+    join(alloc, front, back)
 }
 
 /// The same as `join_over`, over the semiring of a name.
@@ -232,7 +237,7 @@ fn join_named(
 
 /// Joins two panels of a product, also of one under a mask or outside it: appends the entries of a matrix to those of another,
 /// whose columns are all before its own, and leaves the first of these without entries. At a fault both stay as they were.
-/// Costs a copy of the entries that are appended, or nothing if the other matrix has none.
+/// No entry is copied.
 pub fn kept_join(alloc: Global, front: &mut Kept, back: &mut Kept) -> Result<(), Fault>
     ensures answer { IsAnswer (join_faults front.old back.old) (λ _. IsKeptJoin front.old back.old front.new) result }
     ensures rest { OnOk result (Keeps (semiring_of back.old) (empty_matrix (matrix_in back.old).shape) back.new) }

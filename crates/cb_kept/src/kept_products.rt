@@ -1,4 +1,4 @@
-//! Products of kept matrices outside a kept mask, whose result is kept. They copy no operand.
+//! Products of kept matrices outside a kept mask, whose result is kept. An operand of one panel isn't copied.
 ghost use Rattle.std.specs.Prelude.{◌≡◌, IfOk};
 ghost use Rattle.cb_semirings.specs.Names.{arithmetic_of};
 ghost use Rattle.cb_matrix.specs.Values.{product_shape};
@@ -7,10 +7,10 @@ ghost use Rattle.cb_kept.specs.Kept.{Keeps, semiring_of, matrix_in};
 ghost use Rattle.cb_kept.specs.KeptProducts.{outside_faults, outside_in, IsKeptOutside};
 
 use crate::faults::Fault;
-use crate::keeping::Keep;
+use crate::keeping::{Keep, keep_block};
 use crate::kept::Kept;
 use crate::kept_checks::common_semiring;
-use crate::kept_operations::block_in;
+use crate::kept_operations::whole_in;
 use cb_masked::multiply_outside;
 use cb_operations::Operation;
 use cb_semirings::{SemiringName, over_semiring};
@@ -30,9 +30,11 @@ fn outside_over<S: Keep>(
     requires shape { (matrix_in mask.now).shape ≡ product_shape (matrix_in left.now) (matrix_in right.now) }
     ensures { IfOk result (Keeps S.name (outside_in S.arithmetic left.now right.now mask.now)) }
 {
-    let (a, b) = (block_in::<S>(left), block_in::<S>(right));
-    let mut block = multiply_outside(alloc, a, b, block_in::<S>(mask))?;
-    Ok(S::keep(alloc, &mut block))
+    let a = whole_in::<S>(left)?;
+    let b = whole_in::<S>(right)?;
+    let mask = whole_in::<S>(mask)?;
+    let block = multiply_outside(alloc, a.block(), b.block(), mask.block())?;
+    Ok(keep_block::<S>(alloc, block))
 }
 
 /// The same, over the semiring of a name.

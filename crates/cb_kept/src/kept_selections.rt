@@ -12,15 +12,16 @@ ghost use Rattle.cb_kept.specs.Kept.{AreOver, Keeps, semiring_of, matrix_in};
 ghost use Rattle.cb_kept.specs.KeptSelections.{selection_faults, HasSelected, number_faults, IsKeptExtract};
 
 use crate::faults::Fault;
-use crate::keeping::Keep;
-use crate::kept::{Kept, of_block};
+use crate::keeping::{Keep, keep_block};
+use crate::kept::{Kept, of_matrix};
 use crate::kept_checks::one_semiring;
-use crate::kept_operations::block_in;
+use crate::kept_operations::whole_in;
 use cb_dcsc::Block;
+use cb_layout::PanelledMatrix;
 use cb_matrix::{LIMIT, Shape};
 use cb_operations::Selection;
-use cb_reshape::total;
 use cb_selections::{SelectionFault, compute, extract};
+use cb_shares::total;
 use cb_semirings::{Semiring, SemiringName, over_semiring};
 use std::alloc::Global;
 
@@ -53,6 +54,43 @@ fn made_of_two<S: Semiring>(
     compute(alloc, selection, &[a, b])
 }
 
+/// The selection from one kept matrix over a semiring.
+fn of_one<S: Keep>(
+    alloc: Global,
+    selection: Selection,
+    a: &Kept,
+) -> Result<Block<S>, SelectionFault>
+    requires count { operand_count_of selection ≡ 1 }
+    requires over { semiring_of a.now ≡ S.name }
+    ensures ok { IfOk result (λ m. m ≡ answer_of selection S.arithmetic (matrix_in a.now ∷ [])) }
+    ensures suits { IfOk result (λ _. Suits selection S.arithmetic (shapes_in (matrix_in a.now ∷ []))) }
+    ensures fault { IfErr result (IsFaultOf selection S.arithmetic (matrix_in a.now ∷ [])) }
+{
+    selection.check::<S>(&[a.shape()])?;
+    let a = whole_in::<S>(a)?;
+    made_of_one(alloc, selection, a.block())
+}
+
+/// The selection from two kept matrices over a semiring.
+fn of_two<S: Keep>(
+    alloc: Global,
+    selection: Selection,
+    a: &Kept,
+    b: &Kept,
+) -> Result<Block<S>, SelectionFault>
+    requires count { operand_count_of selection ≡ 2 }
+    requires first { semiring_of a.now ≡ S.name }
+    requires second { semiring_of b.now ≡ S.name }
+    ensures ok { IfOk result (λ m. m ≡ answer_of selection S.arithmetic (matrix_in a.now ∷ matrix_in b.now ∷ [])) }
+    ensures suits { IfOk result (λ _. Suits selection S.arithmetic (shapes_in (matrix_in a.now ∷ matrix_in b.now ∷ []))) }
+    ensures fault { IfErr result (IsFaultOf selection S.arithmetic (matrix_in a.now ∷ matrix_in b.now ∷ [])) }
+{
+    selection.check::<S>(&[a.shape(), b.shape()])?;
+    let a = whole_in::<S>(a)?;
+    let b = whole_in::<S>(b)?;
+    made_of_two(alloc, selection, a.block(), b.block())
+}
+
 /// The selection from kept matrices over a semiring.
 fn made<S: Keep>(
     alloc: Global,
@@ -66,8 +104,8 @@ fn made<S: Keep>(
     ensures fault { IfErr result (IsFaultOf selection S.arithmetic (map matrix_in (lent_in operands.now))) }
 {
     match operands {
-        [a] => made_of_one(alloc, selection, block_in::<S>(a)),
-        [a, b] => made_of_two(alloc, selection, block_in::<S>(a), block_in::<S>(b)),
+        [a] => of_one::<S>(alloc, selection, a),
+        [a, b] => of_two::<S>(alloc, selection, a, b),
         _ => unreachable!(),
     }
 }
@@ -84,8 +122,8 @@ fn made_over<S: Keep>(
     ensures suits { IfOk result (λ _. Suits selection S.arithmetic (shapes_in (map matrix_in (lent_in operands.now)))) }
     ensures fault { IfErr result (IsFaultOf selection S.arithmetic (map matrix_in (lent_in operands.now))) }
 {
-    let mut block = made::<S>(alloc, selection, operands)?;
-    Ok(S::keep(alloc, &mut block))
+    let block = made::<S>(alloc, selection, operands)?;
+    Ok(keep_block::<S>(alloc, block))
 }
 
 /// The same, over the semiring of a name.
@@ -167,18 +205,19 @@ fn check_numbers(shape: Shape, rows: &[u32], cols: &[u32]) -> Result<(), Fault>
     Ok(())
 }
 
-/// The rows and columns of a block by their numbers, kept.
+/// The rows and columns of a matrix by their numbers, kept.
 fn extract_kept<S: Keep>(
     alloc: Global,
-    block: &Block<S>,
+    matrix: &PanelledMatrix<S>,
     rows: &[u32],
     cols: &[u32],
 ) -> Result<Kept, Fault>
-    ensures { IsAnswer (number_faults rows.now cols.now block.now.shape) (Keeps S.name (extracted S.arithmetic rows.now cols.now block.now)) result }
+    ensures { IsAnswer (number_faults rows.now cols.now matrix.now.shape) (Keeps S.name (extracted S.arithmetic rows.now cols.now matrix.now)) result }
 {
-    check_numbers(block.shape(), rows, cols)?;
-    let mut part = extract(alloc, block, rows, cols)?;
-    Ok(S::keep(alloc, &mut part))
+    check_numbers(matrix.shape(), rows, cols)?;
+    let whole = matrix.whole()?;
+    let part = extract(alloc, whole.block(), rows, cols)?;
+    Ok(keep_block::<S>(alloc, part))
 }
 
 /// Keeps the matrix of the rows and columns of a kept matrix by their numbers, in any order, with repetitions. Costs a
@@ -188,7 +227,7 @@ fn extract_kept<S: Keep>(
 pub fn kept_extract(alloc: Global, kept: &Kept, rows: &[u32], cols: &[u32]) -> Result<Kept, Fault>
     ensures { IsAnswer (number_faults rows.now cols.now (matrix_in kept.now).shape) (IsKeptExtract rows.now cols.now kept.now) result }
 {
-    of_block!(kept, block => extract_kept(alloc, block, rows, cols))
+    of_matrix!(kept, matrix => extract_kept(alloc, matrix, rows, cols))
 }
 
 /// Returns the semiring's sum of all values of a kept matrix: its zero if there are no entries.
@@ -196,5 +235,5 @@ pub fn kept_extract(alloc: Global, kept: &Kept, rows: &[u32], cols: &[u32]) -> R
 pub fn kept_total(kept: &Kept) -> u64
     ensures { result ≡ matrix_total (arithmetic_of (semiring_of kept.now)) (matrix_in kept.now) }
 {
-    of_block!(kept, block => total(block))
+    of_matrix!(kept, matrix => total(matrix))
 }

@@ -9,7 +9,7 @@ use crate::keeping::Keep;
 use crate::kept::Kept;
 use crate::kept_checks::square_in;
 use crate::kept_walks::keep_column;
-use cb_dcsc::Block;
+use cb_layout::PanelledMatrix;
 use cb_matrix::LIMIT;
 use cb_searches::Walks;
 use std::alloc::{AllocError, Global};
@@ -21,8 +21,8 @@ fn are_below(bound: u32, numbers: &[u32]) -> bool
     numbers.iter().all(|number| *number < bound)
 }
 
-/// The block of a square graph over a semiring, whose vertices include the sources; or else the first fault.
-fn graph_in<'a, S: Keep>(kept: &'a Kept, sources: &[u32]) -> Result<&'a Block<S>, Fault>
+/// The panels of a square graph over a semiring, whose vertices include the sources; or else the first fault.
+fn graph_in<'a, S: Keep>(kept: &'a Kept, sources: &[u32]) -> Result<&'a PanelledMatrix<S>, Fault>
     ensures graph { IfOk result (λ graph. graph.now ≡ matrix_in kept.now) }
     ensures square { IfOk result (λ graph. graph.now.shape.rows ≡ graph.now.shape.cols) }
     ensures limit { IfOk result (λ _. length sources.now ≤ LIMIT) }
@@ -43,7 +43,7 @@ fn graph_in<'a, S: Keep>(kept: &'a Kept, sources: &[u32]) -> Result<&'a Block<S>
 /// The columns of numbers from each source, kept.
 fn number_columns<S: Walks>(
     alloc: Global,
-    graph: &Block<S>,
+    graph: &PanelledMatrix<S>,
     sources: &[u32],
 ) -> Result<Kept, AllocError>
     requires square { graph.now.shape.rows ≡ graph.now.shape.cols }
@@ -51,7 +51,8 @@ fn number_columns<S: Walks>(
     requires sources { All (λ v. v < graph.now.shape.rows) sources.now }
     ensures { IfOk result (IsKeptColumn (S.are_from graph.now sources.now)) }
 {
-    let columns = S::numbers_from(alloc, graph, sources)?;
+    let whole = graph.whole()?;
+    let columns = S::numbers_from(alloc, whole.block(), sources)?;
     keep_column(alloc, &columns)
 }
 
@@ -64,6 +65,6 @@ pub fn kept_numbers_from<S: Walks + Keep>(
 ) -> Result<Kept, Fault>
     ensures { IsAnswer (searches_faults S.name graph.now sources.now) (IsKeptColumn (S.are_from (matrix_in graph.now) sources.now)) result }
 {
-    let block = graph_in::<S>(graph, sources)?;
-    Ok(number_columns(alloc, block, sources)?)
+    let panels = graph_in::<S>(graph, sources)?;
+    Ok(number_columns(alloc, panels, sources)?)
 }

@@ -8,9 +8,9 @@ ghost use Rattle.cb_kept.specs.KeptAnswers.{IsKeptAnswerOver};
 ghost use Rattle.cb_kept.specs.KeptTexts.{IsKeptText, IsKeptRead};
 
 use crate::faults::Fault;
-use crate::keeping::Keep;
-use crate::kept::{Kept, of_block};
-use crate::texts::{Text, block_text, read_block};
+use crate::keeping::{Keep, keep_block};
+use crate::kept::{Kept, of_matrix};
+use crate::texts::{Text, matrix_text, read_block};
 use cb_semirings::{SemiringName, over_semiring};
 use std::alloc::Global;
 
@@ -19,7 +19,7 @@ use std::alloc::Global;
 pub fn text_of(alloc: Global, kept: &Kept) -> Result<Text, Fault>
     ensures { IsAnswer IsMemory (IsKeptText (arithmetic_of (semiring_of kept.now)) kept.now) result }
 {
-    of_block!(kept, block => block_text(alloc, block))
+    of_matrix!(kept, matrix => matrix_text(alloc, matrix))
 }
 
 /// The matrix of a text, kept over a semiring.
@@ -28,7 +28,7 @@ fn read_over<S: Keep>(alloc: Global, text: &[u8], line: &mut u64) -> Result<Kept
     ensures line { IsFaultLine (first_fault S.arithmetic text.now) result line.old line.new }
 {
     match read_block::<S>(alloc, text, line) {
-        Ok(mut block) => Ok(S::keep(alloc, &mut block)),
+        Ok(block) => Ok(keep_block::<S>(alloc, block)),
         Err(fault) => Err(fault),
     }
 }

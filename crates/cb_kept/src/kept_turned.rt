@@ -7,9 +7,9 @@ ghost use Rattle.cb_kept.specs.Kept.{Keeps, semiring_of, matrix_in};
 ghost use Rattle.cb_kept.specs.KeptTurned.{AgreeTurned, turned_faults, IsKeptTurned};
 
 use crate::faults::Fault;
-use crate::keeping::Keep;
+use crate::keeping::{Keep, keep_block};
 use crate::kept::Kept;
-use crate::kept_operations::block_in;
+use crate::kept_operations::whole_in;
 use cb_matrix::Shape;
 use cb_selections::multiply_turned;
 use cb_semirings::{SemiringName, over_semiring};
@@ -63,9 +63,10 @@ fn turned_over<S: Keep>(
     requires agree { AgreeTurned turns.left turns.right left.now right.now }
     ensures { IfOk result (Keeps S.name (turned_product S.arithmetic turns.left turns.right (matrix_in left.now) (matrix_in right.now))) }
 {
-    let (a, b) = (block_in::<S>(left), block_in::<S>(right));
-    let mut block = multiply_turned(alloc, a, turns.left, b, turns.right)?;
-    Ok(S::keep(alloc, &mut block))
+    let a = whole_in::<S>(left)?;
+    let b = whole_in::<S>(right)?;
+    let block = multiply_turned(alloc, a.block(), turns.left, b.block(), turns.right)?;
+    Ok(keep_block::<S>(alloc, block))
 }
 
 /// The same, over the semiring of a name.

@@ -1,18 +1,19 @@
 //! A kept matrix updated by another one, under a mask that is kept too.
-ghost use Rattle.std.specs.Prelude.{◌≡◌, ◌↔◌, IsTrue, Some, IfSome, IfOk, IfErr, option_copied, option_map};
+ghost use Rattle.std.specs.Prelude.{◌≡◌, ◌↔◌, IsTrue, None, Some, IfSome, IfOk, IfErr, option_copied};
 ghost use Rattle.cb_semirings.specs.Names.{arithmetic_of};
+ghost use Rattle.cb_selections.specs.Updates.{updated};
 ghost use Rattle.cb_kept.specs.Answers.{NoFault};
 ghost use Rattle.cb_kept.specs.Kept.{Keeps, semiring_of, matrix_in};
 ghost use Rattle.cb_kept.specs.KeptUpdates.{write_back_of, HaveSemiring, HaveShape, update_faults, updated_in, IsUpdate};
 
 use crate::faults::Fault;
-use crate::keeping::Keep;
+use crate::keeping::{Keep, keep_block};
 use crate::kept::Kept;
-use crate::kept_operations::block_in;
+use crate::kept_operations::whole_in;
 use cb_dcsc::Block;
 use cb_matrix::Shape;
 use cb_selections::{WriteBack, update};
-use cb_semirings::{SemiringName, over_semiring};
+use cb_semirings::{Semiring, SemiringName, over_semiring};
 use std::alloc::{AllocError, Global};
 
 /// Returns the update of a number: the sum of 1 if it accumulates, 2 if the mask is complemented, and 4 if it replaces. No
@@ -66,15 +67,35 @@ fn check_update(how: WriteBack, old: &Kept, new: &Kept, mask: Option<&Kept>) -> 
     Ok(())
 }
 
-/// The block of a mask over a semiring, if there is a mask.
-fn mask_in<S: Keep>(mask: Option<&Kept>) -> Option<&Block<S>>
-    requires { IfSome (option_copied mask) (λ k. semiring_of k ≡ S.name) }
-    ensures { option_copied result ≡ option_map matrix_in (option_copied mask.entry) }
+/// A block, updated without a mask.
+fn update_all<'a, S: Semiring>(
+    alloc: Global,
+    how: WriteBack,
+    old: &'a Block<S>,
+    new: &'a Block<S>,
+) -> Result<Block<S>, AllocError>
+    requires { new.now.shape ≡ old.now.shape }
+    ensures { IfOk result (λ m. m ≡ updated S.arithmetic how None old.now new.now) }
 {
-    match mask {
-        Some(kept) => Some(block_in::<S>(kept)),
-        None => None,
-    }
+    let no_mask: Option<&'a Block<S>> = None;
+    update(alloc, how, old, new, no_mask)
+}
+
+/// A block, updated under a kept mask.
+fn update_under<S: Keep>(
+    alloc: Global,
+    how: WriteBack,
+    old: &Block<S>,
+    new: &Block<S>,
+    mask: &Kept,
+) -> Result<Block<S>, AllocError>
+    requires over { semiring_of mask.now ≡ S.name }
+    requires shape { new.now.shape ≡ old.now.shape }
+    requires mask_shape { (matrix_in mask.now).shape ≡ old.now.shape }
+    ensures { IfOk result (λ m. m ≡ updated S.arithmetic how (Some (matrix_in mask.now)) old.now new.now) }
+{
+    let allowed = whole_in::<S>(mask)?;
+    update(alloc, how, old, new, Some(allowed.block()))
 }
 
 /// The kept update over a semiring.
@@ -90,9 +111,13 @@ fn update_over<S: Keep>(
     requires shape { HaveShape (matrix_in old.now).shape new.now (option_copied mask) }
     ensures { IfOk result (Keeps S.name (updated_in S.arithmetic how old.now new.now (option_copied mask.entry))) }
 {
-    let allowed = mask_in::<S>(mask);
-    let mut block = update(alloc, how, block_in::<S>(old), block_in::<S>(new), allowed)?;
-    Ok(S::keep(alloc, &mut block))
+    let old = whole_in::<S>(old)?;
+    let new = whole_in::<S>(new)?;
+    let block = match mask {
+        Some(mask) => update_under(alloc, how, old.block(), new.block(), mask)?,
+        None => update_all(alloc, how, old.block(), new.block())?,
+    };
+    Ok(keep_block::<S>(alloc, block))
 }
 
 /// The same, over the semiring of a name.

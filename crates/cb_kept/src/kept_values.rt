@@ -5,7 +5,7 @@ ghost use Rattle.cb_matrix.specs.Sparse.{at};
 ghost use Rattle.cb_kept.specs.Kept.{semiring_of, matrix_in};
 ghost use Rattle.cb_kept.specs.KeptAnswers.{IsSummary};
 
-use crate::kept::{Kept, of_block};
+use crate::kept::{Kept, of_matrix};
 
 /// What a kept matrix is, without its entries.
 #[repr(C)]
@@ -35,10 +35,10 @@ pub fn summary_of(kept: &Kept) -> Summary
 }
 
 /// Returns the value of a kept matrix at a place: the semiring's zero if the place has no entry or is outside the shape.
-/// Costs two binary searches.
+/// Costs two binary searches for each panel.
 #[tactic(auto, unfolding(crate::specs::Kept::semiring_of, crate::specs::Kept::matrix_in))]
 pub fn value_at(kept: &Kept, row: u32, column: u32) -> u64
     ensures { result ≡ at (arithmetic_of (semiring_of kept.now)) (matrix_in kept.now) row column }
 {
-    of_block!(kept, block => block.get(row, column))
+    of_matrix!(kept, matrix => matrix.get(row, column))
 }

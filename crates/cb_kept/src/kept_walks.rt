@@ -7,17 +7,17 @@ ghost use Rattle.cb_kept.specs.KeptGraphs.{IsKeptColumn, search_faults};
 
 use crate::faults::Fault;
 use crate::incoming::matrix_block;
-use crate::keeping::Keep;
+use crate::keeping::{Keep, keep_block};
 use crate::kept::Kept;
 use crate::kept_checks::square_in;
-use cb_dcsc::Block;
+use cb_layout::PanelledMatrix;
 use cb_matrix::Matrix;
 use cb_searches::Walks;
 use cb_semirings::MinPlus;
 use std::alloc::{AllocError, Global};
 
-/// The block of a square graph over a semiring, one of whose vertices is the source; or else the first fault.
-pub(crate) fn graph_in<S: Keep>(kept: &Kept, source: u32) -> Result<&Block<S>, Fault>
+/// The panels of a square graph over a semiring, one of whose vertices is the source; or else the first fault.
+pub(crate) fn graph_in<S: Keep>(kept: &Kept, source: u32) -> Result<&PanelledMatrix<S>, Fault>
     ensures graph { IfOk result (λ graph. graph.now ≡ matrix_in kept.now) }
     ensures square { IfOk result (λ graph. graph.now.shape.rows ≡ graph.now.shape.cols) }
     ensures source { IfOk result (λ graph. source < graph.now.shape.rows) }
@@ -35,17 +35,22 @@ pub(crate) fn graph_in<S: Keep>(kept: &Kept, source: u32) -> Result<&Block<S>, F
 pub(crate) fn keep_column(alloc: Global, column: &Matrix<MinPlus>) -> Result<Kept, AllocError>
     ensures { IfOk result (Keeps name_is.MinPlus column.now) }
 {
-    let mut block = matrix_block(alloc, column)?;
-    Ok(MinPlus::keep(alloc, &mut block))
+    let block = matrix_block(alloc, column)?;
+    Ok(keep_block::<MinPlus>(alloc, block))
 }
 
 /// The column of numbers from a source, kept.
-fn number_column<S: Walks>(alloc: Global, graph: &Block<S>, source: u32) -> Result<Kept, AllocError>
+fn number_column<S: Walks>(
+    alloc: Global,
+    graph: &PanelledMatrix<S>,
+    source: u32,
+) -> Result<Kept, AllocError>
     requires square { graph.now.shape.rows ≡ graph.now.shape.cols }
     requires source { source < graph.now.shape.rows }
     ensures { IfOk result (IsKeptColumn (S.are graph.now source)) }
 {
-    let column = S::numbers(alloc, graph, source)?;
+    let whole = graph.whole()?;
+    let column = S::numbers(alloc, whole.block(), source)?;
     keep_column(alloc, &column)
 }
 
@@ -58,6 +63,6 @@ pub fn kept_numbers<S: Walks + Keep>(
 ) -> Result<Kept, Fault>
     ensures { IsAnswer (search_faults S.name graph.now source) (IsKeptColumn (S.are (matrix_in graph.now) source)) result }
 {
-    let block = graph_in::<S>(graph, source)?;
-    Ok(number_column(alloc, block, source)?)
+    let panels = graph_in::<S>(graph, source)?;
+    Ok(number_column(alloc, panels, source)?)
 }

@@ -8,6 +8,7 @@ ghost use Rattle.cb_kept.specs.Answers.{IsAnswer, IsFaultLine};
 
 use crate::faults::Fault;
 use cb_dcsc::Block;
+use cb_layout::PanelledMatrix;
 use cb_market::{Kind, read};
 use cb_market_pages::text;
 use cb_semirings::Semiring;
@@ -20,11 +21,15 @@ pub struct Text {
     pub bytes: &'static [u8],
 }
 
-/// The text of a block. Its bytes belong to the caller.
-pub(crate) fn block_text<S: Semiring>(alloc: Global, block: &Block<S>) -> Result<Text, Fault>
-    ensures { IsAnswer IsMemory (λ t. t.bytes.now ≡ text_of S.arithmetic block.now) result }
+/// The text of a matrix. Its bytes belong to the caller.
+pub(crate) fn matrix_text<S: Semiring>(
+    alloc: Global,
+    matrix: &PanelledMatrix<S>,
+) -> Result<Text, Fault>
+    ensures { IsAnswer IsMemory (λ t. t.bytes.now ≡ text_of S.arithmetic matrix.now) result }
 {
-    let bytes = text(alloc, block)?;
+    let whole = matrix.whole()?;
+    let bytes = text(alloc, whole.block())?;
     Ok(Text {
         bytes: bytes.leak(),
     })

@@ -7,7 +7,7 @@ ghost use Rattle.cb_kept.specs.Triples.{entry_of, AreWithin, AreTripleValues, tr
 
 use crate::faults::Fault;
 use crate::incoming::matrix_block;
-use crate::keeping::Keep;
+use crate::keeping::{Keep, keep_block};
 use crate::kept::Kept;
 use cb_dcsc::Block;
 use cb_matrix::{Entry, Matrix, Shape};
@@ -101,8 +101,8 @@ fn triples_over<S: Keep>(
     ensures { IsTriplesAnswer S.arithmetic S.name nrows ncols triples.now result }
 {
     let shape = check::<S>(nrows, ncols, triples)?;
-    let mut block = block_of::<S>(alloc, shape, triples)?;
-    Ok(S::keep(alloc, &mut block))
+    let block = block_of::<S>(alloc, shape, triples)?;
+    Ok(keep_block::<S>(alloc, block))
 }
 
 /// Keeps the matrix of triples in any order, over the semiring of a number. Values at one place are added up. Costs a sort

@@ -10,11 +10,14 @@ pub mod Neighbours
 -- For this crate alone. ColumnPlaces: where the columns of a range are among those that have entries. ColumnValues:
 -- products with some columns are some columns of products. ByColumns: so are sums and products place by place, prunes and
 -- sums of columns, and selections and updates by columns. PlaceColumns: a walk over columns of a matrix, of which each is
--- stored. PanelColumns: some columns of a matrix in panels. Ends, LaterEnds: where ranges end.
+-- stored. PanelColumns: some columns of a matrix in panels. PanelsBefore: panels whose columns are
+-- before others. PanelTotals: the sum of all values, panel by panel. Ends, LaterEnds: where ranges end.
 mod ColumnPlaces
 mod ColumnValues
 mod ByColumns
 mod PlaceColumns
 mod PanelColumns
+mod PanelsBefore
+mod PanelTotals
 mod Ends
 mod LaterEnds

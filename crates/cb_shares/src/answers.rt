@@ -66,7 +66,7 @@ fn columns_of_two<S: Semiring>(
         return columns_of_both(alloc, operation, a, b, first, end);
     }
     if let Operation::Multiply = operation {
-        return columns_of_product(alloc, a, b, first, end);
+        return product_columns(alloc, a, b, first, end);
     }
     let left = a.whole()?;
     let right = b.whole()?;
@@ -74,8 +74,12 @@ fn columns_of_two<S: Semiring>(
     only_between(alloc, made, first, end)
 }
 
-/// Some columns of a product: the product with these columns of the right factor.
-fn columns_of_product<S: Semiring>(
+/// Returns the columns from `first` up to, but not including, `end` of a product, in a block with the shape of the whole
+/// product: the product with these columns of the right factor.
+///
+/// The columns of the left matrix are as many as the rows of the right. Costs an index of the left matrix's columns, which are
+/// copied if they are in several panels, and the products of these columns.
+pub fn product_columns<S: Semiring>(
     alloc: Global,
     a: &PanelledMatrix<S>,
     b: &PanelledMatrix<S>,
@@ -137,8 +141,8 @@ fn columns_of_three<S: Semiring>(
     )
 }
 
-/// Returns the columns from `first` up to, but not including, `end` of the result of an operation on matrices whose shapes agree,
-/// in a block of the whole shape.
+/// Returns the columns from `first` up to, but not including, `end` of the result of an operation on matrices whose shapes
+/// agree, in a block of the whole shape.
 ///
 /// For sums and products place by place, prunes and sums of columns it costs what these columns of the operands cost; for
 /// products, the products with these columns of the right factor; for all others what the whole result costs.

@@ -14,9 +14,9 @@ use cb_masked::entries_between;
 use cb_semirings::Semiring;
 use std::alloc::{AllocError, Global};
 
-/// Returns the columns of a matrix from `first` up to, but not including, `end`, in a block of the whole shape. If the matrix is
-/// one block that has entries only in these columns, the block is lent; otherwise the entries of these columns are copied. Costs
-/// two binary searches for each panel, and the copy.
+/// Returns the columns of a matrix from `first` up to, but not including, `end`, in a block of the whole shape. If the matrix
+/// is one block that has entries only in these columns, the block is lent; otherwise the entries of these columns are copied.
+/// Costs two binary searches for each panel, and the copy.
 pub fn columns_between<'a, S: Semiring>(
     alloc: Global,
     matrix: &'a PanelledMatrix<S>,

@@ -8,9 +8,9 @@ use cb_layout::PanelledMatrix;
 use cb_semirings::Semiring;
 use std::alloc::{AllocError, Global};
 
-/// Returns where each of `count` shares of the columns of matrices, which have this many columns, ends. All shares take about the
-/// same number of entries, and about `least` or more: if there are too few entries, the last shares have no columns. Columns stay
-/// whole, so a share next to a large column may take fewer.
+/// Returns where each of `count` shares of the columns of matrices, which have this many columns, ends. All shares take about
+/// the same number of entries, and about `least` or more: if there are too few entries, the last shares have no columns.
+/// Columns stay whole, so a share next to a large column may take fewer.
 ///
 /// Costs a few binary searches for each share and panel.
 pub fn ends_by_entries<S: Semiring>(
@@ -38,7 +38,8 @@ pub fn ends_by_entries<S: Semiring>(
     Ok(ends)
 }
 
-/// The first column, at or after `from`, before which matrices have this many entries; or the end of all columns if there is none.
+/// The first column, at or after `from`, before which matrices have this many entries; or the end of all columns if there is
+/// none.
 fn column_after<S: Semiring>(
     operands: &[&PanelledMatrix<S>],
     from: u32,

@@ -1,9 +1,13 @@
-//! Shares of a product: which of its columns each thread makes, how it makes them, and how the panels are joined. The product
-//! may be one under a mask or outside one.
+//! Shares of an operation on matrices in panels: which columns of the answer each thread makes, how it makes them, and how the
+//! panels are put beside one another.
 //!
-//! Columns are divided so that all shares take about the same number of products of two values, as in Nagasaka, Matsuoka,
-//! Azad and Buluç, High-performance Sparse Matrix-Matrix Products on Intel KNL and Multicore Architectures (ICPP Workshops
-//! 2018).
+//! A share is a range of columns of the answer. Sums and products place by place, prunes, sums of columns, entries in a region,
+//! functions of entries, complemented masks and updates have in each column only what their operands have there; a product is
+//! made of the same columns of the right factor. So a share takes these columns of its operands, and no entry of another.
+//!
+//! The columns of a product are divided so that all shares take about the same number of products of two values, as in
+//! Nagasaka, Matsuoka, Azad and Buluç, High-performance Sparse Matrix-Matrix Products on Intel KNL and Multicore Architectures
+//! (ICPP Workshops 2018).
 //!
 //! Nothing here starts a thread: `cb_panels` does, by a runtime, and so may a program in C.
 #![tactic(auto)]
@@ -11,26 +15,23 @@
 mod answers;
 mod columns;
 mod entry_ends;
+mod joins;
 mod selections;
 
-ghost use Rattle.std.specs.Prelude.{◌≡◌, ℕ, ◌↔◌, ◌<◌, ◌≤◌, IsTrue, length, get_or, slice_index, All, AllPairs, IfOk, OnOk, OnErr};
-ghost use Rattle.cb_matrix.specs.Sparse.{IsMatrix};
+ghost use Rattle.std.specs.Prelude.{◌≡◌, ℕ, ◌<◌, ◌≤◌, length, get_or, slice_index, All, AllPairs, IfOk};
 ghost use Rattle.cb_matrix.specs.Operations.{masked};
-ghost use Rattle.cb_matrix.specs.Values.{empty_matrix, product, product_shape};
-ghost use Rattle.cb_dcsc.specs.Columns.{columns_with_entries, with_entries};
+ghost use Rattle.cb_matrix.specs.Values.{product, product_shape};
 ghost use Rattle.cb_operations.specs.Selected.{excluded};
-ghost use Rattle.cb_product.specs.ColumnStarts.{Tells};
-ghost use Rattle.cb_shares.specs.Shares.{panel, AreEnds, AreBefore, JoinsPanels};
+ghost use Rattle.cb_shares.specs.Shares.{panel, AreEnds};
 
-pub use answers::operation_columns;
+pub use answers::{operation_columns, product_columns};
 use cb_dcsc::Block;
-use cb_masked::{entries_between, multiply_masked_columns, multiply_outside_columns};
-use cb_product::{
-    ColumnIndex, multiply_columns, products_of_column, products_of_columns, total_products,
-};
+use cb_masked::{multiply_masked_columns, multiply_outside_columns};
+use cb_product::{ColumnIndex, products_of_columns, total_products};
 use cb_semirings::Semiring;
 pub use columns::columns_between;
 pub use entry_ends::ends_by_entries;
+pub use joins::{are_before, join, total};
 pub use selections::{selection_columns, update_columns};
 use std::alloc::{AllocError, Global};
 
@@ -108,30 +109,6 @@ fn column_at(columns: &[u32], cols: u32, place: usize) -> u32
     }
 }
 
-/// Returns a panel of a product: the product with the right block's columns from `first` up to, but not including, `end`, in
-/// a block with the shape of the whole product.
-///
-/// The columns of the left block are as many as the rows of the right. Costs two binary searches, an index of the left
-/// block's columns, and the products of these columns.
-pub fn multiply_panel<S: Semiring>(
-    alloc: Global,
-    left: &Block<S>,
-    right: &Block<S>,
-    first: u32,
-    end: u32,
-) -> Result<Block<S>, AllocError>
-    requires { left.now.shape.cols ≡ right.now.shape.rows }
-    ensures { IfOk result (λ m. m ≡ panel (product S.arithmetic left.now right.now) first end) }
-{
-    prove_eq!(left.shape().cols(), right.shape().rows());
-    let columns = right.column_numbers();
-    let low = first_from(columns, first);
-    let high = first_from(columns, end).max(low);
-    let index = ColumnIndex::new(alloc, left, entries_between(right, low, high))?;
-    let room = most_entries(left, &index, right, low, high);
-    multiply_columns(alloc, left, &index, right, &columns[low..high], room)
-}
-
 /// Returns a panel of a product under a mask: the product's entries in the columns from `first` up to, but not including, `end`
 /// at the places where the mask has an entry, in a block with the shape of the whole product. The mask's values are ignored.
 ///
@@ -189,65 +166,4 @@ fn first_from(numbers: &[u32], bound: u32) -> usize
         Ok(n) => n,
         Err(n) => n,
     }
-}
-
-/// How many entries can come to stand in the columns from one place up to another: in each no more than its products, or than
-/// there are rows.
-fn most_entries<S: Semiring>(
-    left: &Block<S>,
-    index: &ColumnIndex,
-    right: &Block<S>,
-    low: usize,
-    high: usize,
-) -> usize
-    requires agree { left.now.shape.cols ≡ right.now.shape.rows }
-    requires told { Tells index.now left.now }
-    requires within { high ≤ length (columns_with_entries right.now.entries) }
-{
-    let rows = left.shape().rows() as usize;
-    let mut sum = 0usize;
-    for n in low..high {
-        sum = sum.saturating_add(products_of_column(left, index, right, n).min(rows));
-    }
-    sum
-}
-
-/// Whether the columns of one block that have entries are all before those of another. Takes constant time.
-pub fn are_before<S: Semiring>(front: &Block<S>, back: &Block<S>) -> bool
-    ensures { IsTrue result ↔ AreBefore front.now.entries back.now.entries }
-{
-    ends_before(front.column_numbers(), back.column_numbers())
-}
-
-/// Whether the last of some numbers, which ascend, is before the first of others.
-fn ends_before(front: &[u32], back: &[u32]) -> bool
-    requires front { AllPairs (λ c d. c < d) front.now }
-    requires back { AllPairs (λ c d. c < d) back.now }
-    ensures { IsTrue result ↔ All (λ c. All (λ d. c < d) back.now) front.now }
-{
-    let Some(last) = front.last() else {
-        return true;
-    };
-    let Some(first) = back.first() else {
-        return true;
-    };
-    last < first
-}
-
-/// Appends the entries of another block after all those of a block, and leaves the other without entries. If memory is refused,
-/// both stay as they were. Costs a copy of the other's entries, or nothing if the block has none.
-///
-/// If both are panels of a matrix, such as a product under a mask, the second next to the first, the block becomes the panel of
-/// the columns of both.
-pub fn join<S: Semiring>(front: &mut Block<S>, back: &mut Block<S>) -> Result<(), AllocError>
-    requires shape { back.old.shape ≡ front.old.shape }
-    requires matrix { IsMatrix S.arithmetic (with_entries front.old back.old.entries) }
-    ensures entries { OnOk result (front.new ≡ with_entries front.old back.old.entries) }
-    ensures panels { OnOk result (JoinsPanels S.arithmetic front.old back.old front.new) }
-    ensures rest { OnOk result (back.new ≡ empty_matrix back.old.shape) }
-    ensures front { OnErr result (front.new ≡ front.old) }
-    ensures back { OnErr result (back.new ≡ back.old) }
-{
-    front.append(back)?;
-    Ok(())
 }

@@ -1,5 +1,5 @@
-//! Some columns of a selection from matrices, and of a matrix that is updated. Where the result has in each column only what the
-//! operands have there, these columns are made of the same columns of the operands.
+//! Some columns of a selection from matrices, and of a matrix that is updated. Where the result has in each column only what
+//! the operands have there, these columns are made of the same columns of the operands.
 ghost use Rattle.std.specs.Prelude.{◌≡◌, [], ◌∷◌, length, IsTrue, None, Some, IfOk, IfErr, IfSome, option_copied};
 ghost use Rattle.cb_operations.specs.OperationAnswers.{shapes_in};
 ghost use Rattle.cb_operations.specs.SelectionAnswers.{answer_of, operand_count_of, Suits};
@@ -107,8 +107,8 @@ fn columns_of_two<S: Semiring>(
     Ok(only_between(alloc, made, first, end)?)
 }
 
-/// Returns the columns from `first` up to, but not including, `end` of a selection from matrices, in a block of the whole shape. What
-/// can't be made is refused before memory is requested.
+/// Returns the columns from `first` up to, but not including, `end` of a selection from matrices, in a block of the whole
+/// shape. What can't be made is refused before memory is requested.
 ///
 /// For entries in a region, functions of entries and complemented masks it costs what these columns of the operands cost; for
 /// all others what the whole selection costs.
@@ -188,8 +188,9 @@ fn columns_updated_under<S: Semiring>(
     )
 }
 
-/// Returns the columns from `first` up to, but not including, `end` of a matrix that is updated by a new one of its shape at the
-/// places that a mask allows ([`cb_selections::update`]), in a block of the whole shape. Costs what these columns of the three cost.
+/// Returns the columns from `first` up to, but not including, `end` of a matrix that is updated by a new one of its shape at
+/// the places that a mask allows ([`cb_selections::update`]), in a block of the whole shape. Costs what these columns of the
+/// three cost.
 pub fn update_columns<S: Semiring>(
     alloc: Global,
     how: WriteBack,

@@ -16,8 +16,8 @@ returns g c =
     let last : Sparse = c.taken_from-last.result in
     let a : first ≡ front = c.taken_from-first.ensures in
     let b : last ≡ back = c.taken_from-last.ensures in
-    let r = c.join_blocks-joined.result in
-    let joined = c.join_blocks-joined.ensures in
+    let r = c.join_panels-joined.result in
+    let joined = c.join_panels-joined.ensures in
     let kept = c.keep.ensures in
     let rest = c.keep-2.ensures in
     record {

@@ -4,7 +4,7 @@ use Rattle.cb_matrix.specs.Sparse.{Sparse, IsMatrix}
 use Rattle.cb_matrix.specs.Values.{product}
 use Rattle.cb_shares.specs.Shares.{columns_from}
 use Rattle.cb_shares.proofs.ColumnValues.{only_product}
-use Rattle.cb_shares.proofs.answers.columns_of_product.Goals as goal
+use Rattle.cb_shares.proofs.answers.product_columns.Goals as goal
 
 pub returns : goal.returns
 returns g c =

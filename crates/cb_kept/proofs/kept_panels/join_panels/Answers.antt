@@ -1,5 +1,5 @@
 use Rattle.cb_shares.proofs.Neighbours.{before_matrix}
-use Rattle.cb_kept.proofs.kept_panels.join_blocks.Goals as goal
+use Rattle.cb_kept.proofs.kept_panels.join_panels.Goals as goal
 
 pub join-requires-clause-matrix : goal.join-requires-clause-matrix
 join-requires-clause-matrix g c =

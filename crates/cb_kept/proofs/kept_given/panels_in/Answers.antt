@@ -5,7 +5,7 @@ use Rattle.cb_matrix.specs.Sparse.{Extent}
 use Rattle.cb_kept.specs.Answers.{NoFault}
 use Rattle.cb_kept.specs.KeptGraphs.{kept_graph_faults, column_faults, given_faults}
 use Rattle.cb_kept.proofs.KeptGraphFaults.{graph_wider, graph_after, graph_passed}
-use Rattle.cb_kept.proofs.kept_given.blocks_in.Goals as goal
+use Rattle.cb_kept.proofs.kept_given.panels_in.Goals as goal
 
 pub returns-in_err-block-clause-fault : goal.returns-in_err-block-clause-fault
 returns-in_err-block-clause-fault g c =

@@ -6,7 +6,7 @@ use Rattle.cb_kept.specs.KeptGraphs.{kept_graph_faults, square_faults}
 use Rattle.cb_kept.specs.Refusals.{IsMemory}
 use Rattle.cb_kept.proofs.Firsts.{no_more}
 use Rattle.cb_kept.proofs.KeptGraphFaults.{graph_wider, graph_passed}
-use Rattle.cb_kept.proofs.kept_graphs.square_block.Goals as goal
+use Rattle.cb_kept.proofs.kept_graphs.square_panels.Goals as goal
 
 pub returns-in_err-block-clause-fault : goal.returns-in_err-block-clause-fault
 returns-in_err-block-clause-fault c =
