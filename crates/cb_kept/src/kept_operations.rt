@@ -54,7 +54,11 @@ pub(crate) fn whole_in<S: Keep>(kept: &Kept) -> Result<Whole<'_, Block<S>>, Allo
 }
 
 /// The result of an operation on one matrix.
-fn made_of_one<S: Keep>(alloc: Global, operation: Operation, a: &Kept) -> Result<Block<S>, AllocError>
+fn made_of_one<S: Keep>(
+    alloc: Global,
+    operation: Operation,
+    a: &Kept,
+) -> Result<Block<S>, AllocError>
     requires count { operand_count_of operation ≡ 1 }
     requires over { semiring_of a.now ≡ S.name }
     ensures { IfOk result (λ m. m ≡ answer_of operation S.arithmetic (matrix_in a.now ∷ [])) }

@@ -21,8 +21,8 @@ use cb_layout::PanelledMatrix;
 use cb_matrix::{LIMIT, Shape};
 use cb_operations::Selection;
 use cb_selections::{SelectionFault, compute, extract};
-use cb_shares::total;
 use cb_semirings::{Semiring, SemiringName, over_semiring};
+use cb_shares::total;
 use std::alloc::Global;
 
 /// The selection from one block.

@@ -7,8 +7,8 @@ use Rattle.cb_kept.specs.KeptGraphs.{kept_graph_faults, column_faults, given_fau
 use Rattle.cb_kept.proofs.KeptGraphFaults.{graph_wider, graph_after, graph_passed}
 use Rattle.cb_kept.proofs.kept_given.panels_in.Goals as goal
 
-pub returns-in_err-block-clause-fault : goal.returns-in_err-block-clause-fault
-returns-in_err-block-clause-fault g c =
+pub returns-in_err-panels-clause-fault : goal.returns-in_err-panels-clause-fault
+returns-in_err-panels-clause-fault g c =
     let name = g.S.Keep.name in
     let k = c.args.graph.now in
     let given = c.args.given.now in
@@ -20,8 +20,8 @@ returns-in_err-column-clause-fault g c =
     let name = g.S.Keep.name in
     let k = c.args.graph.now in
     let given = c.args.given.now in
-    let block = c.in_ok-block.block.now in
-    let is = c.in_ok-block.ensures in
+    let block = c.in_ok-panels.panels.now in
+    let is = c.in_ok-panels.ensures in
     let h : IfErr c.from_residual-in_err-column.result (column_faults c.shape.result given) = search rules in
     IfErr-weaker c.from_residual-in_err-column.result (column_faults c.shape.result given) (given_faults name k given)
     (λ f fault. graph_after name k (λ m. column_faults m.shape given) block f is.graph is.square (subst (λ (e : Extent). column_faults e given f) c.shape.ensures.shape fault)) h
@@ -29,6 +29,6 @@ returns-in_err-column-clause-fault g c =
 pub returns-clause-none : goal.returns-clause-none
 returns-clause-none g c =
     let given = c.args.given.now in
-    let is = c.in_ok-block.ensures in
-    graph_passed g.S.Keep.name c.args.graph.now (λ m. column_faults m.shape given) c.in_ok-block.block.now is.graph is.square
+    let is = c.in_ok-panels.ensures in
+    graph_passed g.S.Keep.name c.args.graph.now (λ m. column_faults m.shape given) c.in_ok-panels.panels.now is.graph is.square
     (subst (λ (e : Extent). NoFault (column_faults e given)) c.shape.ensures.shape c.in_ok-column.ensures.none)
