@@ -41,7 +41,7 @@
  * give exactly the result that its comment describes. The proofs run whenever libcb_ffi.a is built (docs/PROMISES.md).
  * Not proved are this header and cbgrid.c (null pointers, messages, freeing; that compressed rows are the compressed
  * columns of the transpose; the triples of a matrix; which place stands for a diagonal; which of the proved products a
- * struct cbgrid_how asks for; that threads make each panel of a product, and that all are joined in order), the C compiler,
+ * struct cbgrid_how asks for; that threads make each panel of a product, and that all are put side by side in order), the C compiler,
  * malloc and POSIX threads.
  *
  * What the library relies on. Pointers are aligned for their type and lead to as many elements as the length says.
@@ -304,8 +304,8 @@ struct cbgrid_how {
  *
  * Each thread makes some columns. All make about the same number of products of matching entries, also of those that a mask
  * spares, and about 65536 or more: a small product takes fewer threads. The caller's thread also does what no new thread can
- * be started for, and joins the columns. Besides the products, several threads cost a pass over the entries of b, an index of
- * the columns of a for each, and a copy of the result except for the columns of the first thread.
+ * be started for. Besides the products, several threads cost a pass over the entries of b, and an index of the columns of a for
+ * each. The columns that each thread made stay where they are: a call that needs such a matrix in one piece copies it.
  */
 int cbgrid_matrix_multiply(const struct cbgrid_matrix *a, const struct cbgrid_matrix *b, const struct cbgrid_how *how,
                            struct cbgrid_matrix **out);

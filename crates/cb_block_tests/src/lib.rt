@@ -34,4 +34,6 @@ mod selections;
 #[cfg(test)]
 mod semirings;
 #[cfg(test)]
+mod shares;
+#[cfg(test)]
 mod updates;

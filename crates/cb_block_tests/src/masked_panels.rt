@@ -16,7 +16,11 @@ use std::alloc::{AllocError, Global};
 type Matrix = Block<PlusTimes>;
 
 /// Whether the entries of a block are those of two others, one after the other.
-fn are_halves(whole: &Matrix, front: &Matrix, back: &Matrix) -> Result<bool, AllocError> {
+pub(crate) fn are_halves(
+    whole: &Matrix,
+    front: &Matrix,
+    back: &Matrix,
+) -> Result<bool, AllocError> {
     let wanted = whole.entries()?;
     let mut found = front.entries()?;
     let rest = back.entries()?;
@@ -59,7 +63,7 @@ fn are_outside(
 }
 
 /// A random matrix with an entry at about one in this many places.
-fn random(
+pub(crate) fn random(
     alloc: Global,
     rows: u32,
     cols: u32,
