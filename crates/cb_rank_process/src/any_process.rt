@@ -8,27 +8,28 @@ use cb_operations::Operation;
 use cb_rank::Want;
 use cb_semirings::{
     MaxFirst, MaxMin, MaxPlus, MaxSecond, MinFirst, MinMax, MinPlus, MinSecond, OrAnd, PlusFirst,
-    PlusMin, PlusPair, PlusSecond, PlusTimes, SemiringName,
+    PlusMin, PlusPair, PlusSecond, PlusTimes, Semiring, SemiringName, over_semiring,
 };
 use std::alloc::Global;
 
-/// A process over one of the semirings.
+/// A process over one of the semirings, on the heap, or what is left of one that was freed.
 #[derive(Drop)]
 pub enum AnyProcess {
-    PlusTimes(Process<PlusTimes>),
-    MinPlus(Process<MinPlus>),
-    OrAnd(Process<OrAnd>),
-    MaxMin(Process<MaxMin>),
-    PlusPair(Process<PlusPair>),
-    PlusMin(Process<PlusMin>),
-    PlusFirst(Process<PlusFirst>),
-    PlusSecond(Process<PlusSecond>),
-    MinFirst(Process<MinFirst>),
-    MinSecond(Process<MinSecond>),
-    MaxFirst(Process<MaxFirst>),
-    MaxSecond(Process<MaxSecond>),
-    MaxPlus(Process<MaxPlus>),
-    MinMax(Process<MinMax>),
+    PlusTimes(Box<Process<PlusTimes>>),
+    MinPlus(Box<Process<MinPlus>>),
+    OrAnd(Box<Process<OrAnd>>),
+    MaxMin(Box<Process<MaxMin>>),
+    PlusPair(Box<Process<PlusPair>>),
+    PlusMin(Box<Process<PlusMin>>),
+    PlusFirst(Box<Process<PlusFirst>>),
+    PlusSecond(Box<Process<PlusSecond>>),
+    MinFirst(Box<Process<MinFirst>>),
+    MinSecond(Box<Process<MinSecond>>),
+    MaxFirst(Box<Process<MaxFirst>>),
+    MaxSecond(Box<Process<MaxSecond>>),
+    MaxPlus(Box<Process<MaxPlus>>),
+    MinMax(Box<Process<MinMax>>),
+    Freed,
 }
 
 /// A message over one of the semirings.
@@ -50,9 +51,9 @@ pub enum AnyMessage {
     MinMax(Message<MinMax>),
 }
 
-/// What is made of a process or a message, over any semiring.
+/// What is made of a process or a message, over any semiring, and of a process that was freed.
 macro_rules! over_any {
-    ($kind:ident, $any:expr, $one:ident => $made:expr) => {
+    ($kind:ident, $any:expr, $one:ident => $made:expr $(, $freed:ident => $otherwise:expr)?) => {
         match $any {
             $kind::PlusTimes($one) => $made,
             $kind::MinPlus($one) => $made,
@@ -68,52 +69,40 @@ macro_rules! over_any {
             $kind::MaxSecond($one) => $made,
             $kind::MaxPlus($one) => $made,
             $kind::MinMax($one) => $made,
+            $($kind::$freed => $otherwise,)?
         }
     };
 }
 
-/// A process over the semiring of a name.
-macro_rules! opened {
-    ($name:expr, $open:expr) => {
-        match $name {
-            SemiringName::PlusTimes => AnyProcess::PlusTimes($open),
-            SemiringName::MinPlus => AnyProcess::MinPlus($open),
-            SemiringName::OrAnd => AnyProcess::OrAnd($open),
-            SemiringName::MaxMin => AnyProcess::MaxMin($open),
-            SemiringName::PlusPair => AnyProcess::PlusPair($open),
-            SemiringName::PlusMin => AnyProcess::PlusMin($open),
-            SemiringName::PlusFirst => AnyProcess::PlusFirst($open),
-            SemiringName::PlusSecond => AnyProcess::PlusSecond($open),
-            SemiringName::MinFirst => AnyProcess::MinFirst($open),
-            SemiringName::MinSecond => AnyProcess::MinSecond($open),
-            SemiringName::MaxFirst => AnyProcess::MaxFirst($open),
-            SemiringName::MaxSecond => AnyProcess::MaxSecond($open),
-            SemiringName::MaxPlus => AnyProcess::MaxPlus($open),
-            SemiringName::MinMax => AnyProcess::MinMax($open),
-        }
+/// What a process does, over any semiring. One that was freed does nothing.
+macro_rules! over_process {
+    ($any:expr, $process:ident => $done:expr) => {
+        over_any!(AnyProcess, $any, $process => $done, Freed => Err(ProcessFault::Absent))
     };
 }
 
-/// The message of a process, over its semiring.
-macro_rules! posted {
-    ($any:expr, $process:ident => $post:expr) => {
-        match $any {
-            AnyProcess::PlusTimes($process) => Ok(AnyMessage::PlusTimes($post)),
-            AnyProcess::MinPlus($process) => Ok(AnyMessage::MinPlus($post)),
-            AnyProcess::OrAnd($process) => Ok(AnyMessage::OrAnd($post)),
-            AnyProcess::MaxMin($process) => Ok(AnyMessage::MaxMin($post)),
-            AnyProcess::PlusPair($process) => Ok(AnyMessage::PlusPair($post)),
-            AnyProcess::PlusMin($process) => Ok(AnyMessage::PlusMin($post)),
-            AnyProcess::PlusFirst($process) => Ok(AnyMessage::PlusFirst($post)),
-            AnyProcess::PlusSecond($process) => Ok(AnyMessage::PlusSecond($post)),
-            AnyProcess::MinFirst($process) => Ok(AnyMessage::MinFirst($post)),
-            AnyProcess::MinSecond($process) => Ok(AnyMessage::MinSecond($post)),
-            AnyProcess::MaxFirst($process) => Ok(AnyMessage::MaxFirst($post)),
-            AnyProcess::MaxSecond($process) => Ok(AnyMessage::MaxSecond($post)),
-            AnyProcess::MaxPlus($process) => Ok(AnyMessage::MaxPlus($post)),
-            AnyProcess::MinMax($process) => Ok(AnyMessage::MinMax($post)),
-        }
-    };
+/// Opens a process over one semiring.
+fn open_over<S: Semiring>(alloc: Global, side: u32, me: u32) -> Result<AnyProcess, ProcessFault>
+where
+    AnyProcess: From<Box<Process<S>>>,
+{
+    let process = Process::<S>::open(alloc, side, me)?;
+    match Box::new(alloc, process) {
+        Ok(process) => Ok(AnyProcess::from(process)),
+        Err(_) => Err(ProcessFault::Memory),
+    }
+}
+
+/// Does a Post or a Shut over one semiring.
+fn post_over<S: Semiring>(
+    alloc: Global,
+    process: &mut Process<S>,
+) -> Result<AnyMessage, ProcessFault>
+where
+    AnyMessage: From<Message<S>>,
+{
+    let message = process.post(alloc)?;
+    Ok(AnyMessage::from(message))
 }
 
 impl AnyProcess {
@@ -124,7 +113,7 @@ impl AnyProcess {
         side: u32,
         me: u32,
     ) -> Result<AnyProcess, ProcessFault> {
-        Ok(opened!(semiring, Process::open(alloc, side, me)?))
+        over_semiring!(semiring, open_over::<_>(alloc, side, me))
     }
 
     /// Reads a piece of a text, and begins to bring its entries to their owners: [`Process::read`].
@@ -134,27 +123,27 @@ impl AnyProcess {
         opening: &[u8],
         piece: &[u8],
     ) -> Result<LineCounts, ProcessFault> {
-        over_any!(AnyProcess, self, process => process.read(alloc, opening, piece))
+        over_process!(self, process => process.read(alloc, opening, piece))
     }
 
     /// Begins an operation on the matrices in the first registers: [`Process::operate`].
     pub fn operate(&mut self, alloc: Global, operation: Operation) -> Result<(), ProcessFault> {
-        over_any!(AnyProcess, self, process => process.operate(alloc, operation))
+        over_process!(self, process => process.operate(alloc, operation))
     }
 
     /// Begins to bring a matrix into the order of its text: [`Process::gather_columns`].
     pub fn gather_columns(&mut self, alloc: Global, register: u32) -> Result<(), ProcessFault> {
-        over_any!(AnyProcess, self, process => process.gather_columns(alloc, register))
+        over_process!(self, process => process.gather_columns(alloc, register))
     }
 
     /// The next half of the plan: [`Process::want`].
     pub fn want(&self) -> Want {
-        over_any!(AnyProcess, self, process => process.want())
+        over_any!(AnyProcess, self, process => process.want(), Freed => Want::Done)
     }
 
     /// Does a Post or a Shut, and hands out its letter: [`Process::post`].
     pub fn post(&mut self, alloc: Global) -> Result<AnyMessage, ProcessFault> {
-        posted!(self, process => process.post(alloc)?)
+        over_process!(self, process => post_over(alloc, process))
     }
 
     /// Does a Take or an End with what arrived: [`Process::take`].
@@ -164,27 +153,27 @@ impl AnyProcess {
         head: &Head,
         lists: &Columns,
     ) -> Result<(), ProcessFault> {
-        over_any!(AnyProcess, self, process => process.take(alloc, head, lists))
+        over_process!(self, process => process.take(alloc, head, lists))
     }
 
     /// Does a Work: [`Process::work`].
     pub fn work(&mut self) -> Result<(), ProcessFault> {
-        over_any!(AnyProcess, self, process => process.work())
+        over_process!(self, process => process.work())
     }
 
     /// Ends the plan, and keeps the block that it leaves: [`Process::end`].
     pub fn end(&mut self, register: u32) -> Result<(), ProcessFault> {
-        over_any!(AnyProcess, self, process => process.end(register))
+        over_process!(self, process => process.end(register))
     }
 
-    /// Frees all matrices and the plan: [`Process::clear`].
+    /// Frees all that the process has. The other calls then do nothing.
     pub fn clear(&mut self) {
-        over_any!(AnyProcess, self, process => process.clear())
+        *self = AnyProcess::Freed;
     }
 
     /// How many entries this process has of a matrix: [`Process::entry_count`].
     pub fn entry_count(&self, register: u32) -> Result<u64, ProcessFault> {
-        over_any!(AnyProcess, self, process => process.entry_count(register))
+        over_process!(self, process => process.entry_count(register))
     }
 
     /// The head of the text of a matrix: [`Process::head`].
@@ -194,12 +183,12 @@ impl AnyProcess {
         register: u32,
         entries: u64,
     ) -> Result<Vec<u8>, ProcessFault> {
-        over_any!(AnyProcess, self, process => process.head(alloc, register, entries))
+        over_process!(self, process => process.head(alloc, register, entries))
     }
 
     /// The lines of some columns: [`Process::lines`].
     pub fn lines(&mut self, alloc: Global, register: u32) -> Result<Vec<u8>, ProcessFault> {
-        over_any!(AnyProcess, self, process => process.lines(alloc, register))
+        over_process!(self, process => process.lines(alloc, register))
     }
 }
 

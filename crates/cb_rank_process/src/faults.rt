@@ -11,7 +11,7 @@ pub enum ProcessFault {
     NotNow,
     /// The half doesn't wait for this letter, or what arrived is no letter.
     Stray,
-    /// There is no such semiring, grid, rank, operation or register, or the register has no matrix.
+    /// There is no such semiring, grid, rank, operation or register, the register has no matrix, or the process was freed.
     Absent,
     /// The text has a fault, or memory was refused while it was read.
     Text,

@@ -11,6 +11,7 @@
 //! [`AnyProcess`] is a process over whichever semiring.
 #![tactic(auto)]
 
+mod any_kinds;
 mod any_process;
 mod any_texts;
 mod faults;

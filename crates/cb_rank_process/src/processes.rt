@@ -1,7 +1,7 @@
 //! A process: its matrices, and the plan that it does.
-ghost use Rattle.std.specs.Prelude.{◌≡◌, ◌↔◌, ◌<◌, [], slice_set, replicate, Some, None, IsTrue, IfSome, IfNone, IfOk, IfErr, OnOk, OnErr};
+ghost use Rattle.std.specs.Prelude.{◌≡◌, ◌↔◌, ◌<◌, slice_set, replicate, Some, None, IsTrue, IfSome, IfNone, IfOk, IfErr, OnOk, OnErr};
 ghost use Rattle.cb_plan.specs.declared.stores.Slot.TheVariants.{Sheet};
-ghost use Rattle.cb_rank_process.specs.Processes.{register_at, given_up, with_registers, new_process, process_view, IsFree, Starts};
+ghost use Rattle.cb_rank_process.specs.Processes.{register_at, given_up, with_registers, new_process, IsFree, Starts};
 ghost use Rattle.cb_rank_process.specs.Kept.{Keeps, IsEndFault};
 
 use crate::faults::ProcessFault;
@@ -89,15 +89,6 @@ impl<S: Semiring> Process<S> {
             task: None,
             unsent: None,
         })
-    }
-
-    /// Frees all matrices and the plan. Nothing is left of the process but its rank.
-    pub fn clear(&mut self)
-        ensures { self.new ≡ process_view self.old.side self.old.me [] None None }
-    {
-        self.registers.clear();
-        self.task = None;
-        self.unsent = None;
     }
 
     /// Whether a plan may be begun.
