@@ -276,7 +276,7 @@ uint32_t cbgrid_matrix_semiring(const struct cbgrid_matrix *a);
 uint64_t cbgrid_matrix_entries(const struct cbgrid_matrix *a);
 
 /* Writes the value at a place to `out`: the semiring's zero if the place has no entry. CBGRID_PLACE if the place is
- * outside the shape. Costs two binary searches, and takes no memory. */
+ * outside the shape. Costs two binary searches for each thread that made the matrix, and takes no memory. */
 int cbgrid_matrix_value(const struct cbgrid_matrix *a, uint32_t row, uint32_t column, uint64_t *out);
 
 /*
@@ -373,12 +373,13 @@ int cbgrid_matrix_part(const struct cbgrid_matrix *a, uint32_t row, uint32_t row
 int cbgrid_matrix_extract(const struct cbgrid_matrix *a, const uint32_t *rows, size_t row_count,
                           const uint32_t *columns, size_t column_count, struct cbgrid_matrix **out);
 
-/* Makes the Kronecker product: each value of a is replaced by its products with all of b. CBGRID_TOO_LARGE if the result has more than CBGRID_LIMIT rows or columns. Costs the entries
- * of a times those of b. */
+/* Makes the Kronecker product: each value of a is replaced by its products with all of b. CBGRID_TOO_LARGE if the result has
+ * more than CBGRID_LIMIT rows or columns. Costs the entries of a times those of b. */
 int cbgrid_matrix_kron(const struct cbgrid_matrix *a, const struct cbgrid_matrix *b, struct cbgrid_matrix **out);
 
 /* Makes a copy of a in which `part` replaces the part of its shape that begins at (row, column). All entries of a in
- * that part are dropped, whether or not `part` has an entry in their places. CBGRID_PLACE if the part ends beyond a. Costs a walk over the entries of both. */
+ * that part are dropped, whether or not `part` has an entry in their places. CBGRID_PLACE if the part ends beyond a. Costs a
+ * walk over the entries of both. */
 int cbgrid_matrix_assign(const struct cbgrid_matrix *a, uint32_t row, uint32_t column,
                          const struct cbgrid_matrix *part, struct cbgrid_matrix **out);
 

@@ -1,7 +1,7 @@
 /*
  * Tests of what products by several threads are made of, by worked examples: where ranges of a product's columns end, the
- * panel of a range, without a mask, under one and outside one, and two panels joined; and the codes of each, in the order
- * of the checks.
+ * panel of a range, without a mask, under one and outside one, and two panels joined; the codes of each, in the order of the
+ * checks; and each call on a matrix of several panels.
  */
 #include "../kernel.h"
 #include "check.h"
@@ -31,6 +31,11 @@ static const struct example mask_of_whole = {2, 2, mask_triples, 2};
 static const struct example under = {2, 2, under_triples, 2}, rest = {2, 2, rest_triples, 2};
 static const struct example under_first = {2, 2, under_triples, 1}, under_last = {2, 2, under_triples + 1, 1};
 static const struct example rest_first = {2, 2, rest_triples, 1}, rest_last = {2, 2, rest_triples + 1, 1};
+
+/* A graph with all its edges, and its columns. */
+static const struct cbgrid_triple ones_triples[] = {{0, 0, 1}, {1, 0, 1}, {0, 1, 1}, {1, 1, 1}};
+static const struct example ones = {2, 2, ones_triples, 4};
+static const struct example ones_first = {2, 2, ones_triples, 2}, ones_last = {2, 2, ones_triples + 2, 2};
 
 /* A matrix with sides at the limit, and its square; a matrix without sides. */
 static const struct example far = {CBGRID_LIMIT, CBGRID_LIMIT, &far_triple, 1}, none = {0, 0, NULL, 0};
@@ -207,6 +212,126 @@ static void test_codes_of_masked_factors(void) {
     }
 }
 
+/* ---- A matrix of two panels, as threads leave it, in each call: the answer is that of the same matrix in one panel. */
+
+/* The whole matrix over a semiring, in a panel for each column. */
+static struct cbgrid_matrix *two_panels(uint32_t semiring) {
+    struct owned front = {kept_of(semiring, &first_column)}, back = {kept_of(semiring, &last_column)}, made = {NULL};
+    EXPECT(cbgrid_kernel_kept_join(front, back, &made) == CBGRID_OK);
+    free(back.at);
+    return made.at;
+}
+
+static int by_square(const struct cbgrid_matrix *a, struct cbgrid_matrix **out) {
+    return cbgrid_matrix_multiply(a, a, NULL, out);
+}
+static int by_square_under(const struct cbgrid_matrix *a, struct cbgrid_matrix **out) {
+    return cbgrid_matrix_multiply(a, a, &(struct cbgrid_how){.mask = a}, out);
+}
+static int by_square_outside(const struct cbgrid_matrix *a, struct cbgrid_matrix **out) {
+    return cbgrid_matrix_multiply(a, a, &(struct cbgrid_how){.mask = a, .complement = 1}, out);
+}
+static int by_square_of_transposes(const struct cbgrid_matrix *a, struct cbgrid_matrix **out) {
+    return cbgrid_matrix_multiply(a, a, &(struct cbgrid_how){.transpose_a = 1, .transpose_b = 1}, out);
+}
+static int by_square_of_threads(const struct cbgrid_matrix *a, struct cbgrid_matrix **out) {
+    return cbgrid_matrix_multiply(a, a, &(struct cbgrid_how){.threads = 2}, out);
+}
+static int by_add(const struct cbgrid_matrix *a, struct cbgrid_matrix **out) { return cbgrid_matrix_add(a, a, out); }
+static int by_times(const struct cbgrid_matrix *a, struct cbgrid_matrix **out) { return cbgrid_matrix_times(a, a, out); }
+static int by_prune(const struct cbgrid_matrix *a, struct cbgrid_matrix **out) { return cbgrid_matrix_prune(a, CBGRID_ABOVE, 2, out); }
+static int by_select(const struct cbgrid_matrix *a, struct cbgrid_matrix **out) { return cbgrid_matrix_select(a, CBGRID_LOWER, 0, out); }
+static int by_apply(const struct cbgrid_matrix *a, struct cbgrid_matrix **out) { return cbgrid_matrix_apply(a, CBGRID_COLUMN, 0, out); }
+static int by_part(const struct cbgrid_matrix *a, struct cbgrid_matrix **out) { return cbgrid_matrix_part(a, 1, 2, 0, 2, out); }
+static int by_extract(const struct cbgrid_matrix *a, struct cbgrid_matrix **out) {
+    static const uint32_t rows[] = {1, 0, 1}, columns[] = {1, 0};
+    return cbgrid_matrix_extract(a, rows, 3, columns, 2, out);
+}
+static int by_kron(const struct cbgrid_matrix *a, struct cbgrid_matrix **out) { return cbgrid_matrix_kron(a, a, out); }
+static int by_assign(const struct cbgrid_matrix *a, struct cbgrid_matrix **out) { return cbgrid_matrix_assign(a, 0, 0, a, out); }
+static int by_exclude(const struct cbgrid_matrix *a, struct cbgrid_matrix **out) { return cbgrid_matrix_exclude(a, a, out); }
+static int by_update(const struct cbgrid_matrix *a, struct cbgrid_matrix **out) {
+    return cbgrid_matrix_update(a, a, a, CBGRID_ACCUMULATE, out);
+}
+static int by_update_of_all(const struct cbgrid_matrix *a, struct cbgrid_matrix **out) {
+    return cbgrid_matrix_update(a, a, NULL, CBGRID_ACCUMULATE, out);
+}
+static int by_power(const struct cbgrid_matrix *a, struct cbgrid_matrix **out) { return cbgrid_matrix_power(a, 3, out); }
+static int by_levels(const struct cbgrid_matrix *a, struct cbgrid_matrix **out) { return cbgrid_matrix_levels(a, 0, out); }
+static int by_distances(const struct cbgrid_matrix *a, struct cbgrid_matrix **out) { return cbgrid_matrix_distances(a, 0, out); }
+static int by_parents(const struct cbgrid_matrix *a, struct cbgrid_matrix **out) { return cbgrid_matrix_parents(a, 0, out); }
+static int by_levels_from(const struct cbgrid_matrix *a, struct cbgrid_matrix **out) {
+    static const uint32_t sources[] = {1, 0};
+    return cbgrid_matrix_levels_from(a, sources, 2, out);
+}
+
+static void test_calls_on_panels(void) {
+    static const struct {
+        uint32_t semiring;
+        int (*call)(const struct cbgrid_matrix *a, struct cbgrid_matrix **out);
+    } rows[] = {
+        {CBGRID_PLUS_TIMES, by_square}, {CBGRID_PLUS_TIMES, by_square_under}, {CBGRID_PLUS_TIMES, by_square_outside},
+        {CBGRID_PLUS_TIMES, by_square_of_transposes}, {CBGRID_PLUS_TIMES, by_square_of_threads},
+        {CBGRID_PLUS_TIMES, cbgrid_matrix_transpose}, {CBGRID_PLUS_TIMES, cbgrid_matrix_row_sums},
+        {CBGRID_PLUS_TIMES, cbgrid_matrix_column_sums}, {CBGRID_PLUS_TIMES, by_add}, {CBGRID_PLUS_TIMES, by_times},
+        {CBGRID_PLUS_TIMES, by_prune}, {CBGRID_PLUS_TIMES, by_select}, {CBGRID_PLUS_TIMES, by_apply},
+        {CBGRID_PLUS_TIMES, cbgrid_matrix_diagonal}, {CBGRID_PLUS_TIMES, by_part}, {CBGRID_PLUS_TIMES, by_extract},
+        {CBGRID_PLUS_TIMES, by_kron}, {CBGRID_PLUS_TIMES, by_assign}, {CBGRID_PLUS_TIMES, by_exclude},
+        {CBGRID_PLUS_TIMES, by_update}, {CBGRID_PLUS_TIMES, by_update_of_all}, {CBGRID_PLUS_TIMES, by_power},
+        {CBGRID_PLUS_TIMES, cbgrid_matrix_row_degrees}, {CBGRID_PLUS_TIMES, cbgrid_matrix_column_degrees},
+        {CBGRID_MIN_PLUS, by_add}, {CBGRID_MIN_PLUS, by_distances},
+    };
+    for (size_t n = 0; n < sizeof rows / sizeof *rows; n++) {
+        struct cbgrid_matrix *panels = two_panels(rows[n].semiring), *one = kept_of(rows[n].semiring, &whole);
+        struct cbgrid_matrix *made = NULL, *want = NULL;
+        EXPECT(is_same(panels, one));
+        EXPECT(rows[n].call(panels, &made) == CBGRID_OK && rows[n].call(one, &want) == CBGRID_OK);
+        EXPECT(is_same(made, want));
+        struct cbgrid_matrix *all[] = {panels, one, made, want};
+        for (size_t k = 0; k < sizeof all / sizeof *all; k++) cbgrid_matrix_free(all[k]);
+        EXPECT(live == 0);
+    }
+}
+
+/* Searches over or-and, where each value is 1; and what a call reads of a matrix without making one. */
+static void test_graphs_in_panels(void) {
+    static int (*const calls[])(const struct cbgrid_matrix *a, struct cbgrid_matrix **out) = {
+        by_levels, by_parents, by_levels_from, cbgrid_matrix_components,
+    };
+    struct cbgrid_matrix *numbers = two_panels(0), *one_numbers = kept_of(0, &whole), *panels = NULL, *one = NULL;
+    uint64_t value = 0, total = 0, one_total = 0, triangles = 7, one_triangles = 0;
+    struct cbgrid_text text, one_text;
+    for (uint32_t row = 0; row < 2; row++) {
+        for (uint32_t column = 0; column < 2; column++) {
+            uint64_t one_value = 0;
+            EXPECT(cbgrid_matrix_value(numbers, row, column, &value) == CBGRID_OK);
+            EXPECT(cbgrid_matrix_value(one_numbers, row, column, &one_value) == CBGRID_OK && value == one_value);
+        }
+    }
+    EXPECT(cbgrid_matrix_reduce_all(numbers, &total) == CBGRID_OK && cbgrid_matrix_reduce_all(one_numbers, &one_total) == CBGRID_OK);
+    EXPECT(total == one_total && total == 18 && cbgrid_matrix_entries(numbers) == 4);
+    EXPECT(cbgrid_matrix_text(numbers, &text) == CBGRID_OK && cbgrid_matrix_text(one_numbers, &one_text) == CBGRID_OK);
+    EXPECT(text.len == one_text.len && !memcmp(text.bytes, one_text.bytes, text.len));
+    cbgrid_free_text(&text);
+    cbgrid_free_text(&one_text);
+    struct owned front = {kept_of(CBGRID_OR_AND, &ones_first)}, back = {kept_of(CBGRID_OR_AND, &ones_last)}, made = {NULL};
+    EXPECT(cbgrid_kernel_kept_join(front, back, &made) == CBGRID_OK);
+    free(back.at);
+    panels = made.at;
+    one = kept_of(CBGRID_OR_AND, &ones);
+    for (size_t n = 0; n < sizeof calls / sizeof *calls; n++) {
+        struct cbgrid_matrix *found = NULL, *want = NULL;
+        EXPECT(calls[n](panels, &found) == CBGRID_OK && calls[n](one, &want) == CBGRID_OK && is_same(found, want));
+        cbgrid_matrix_free(found);
+        cbgrid_matrix_free(want);
+    }
+    EXPECT(cbgrid_matrix_triangles(panels, &triangles) == CBGRID_OK && cbgrid_matrix_triangles(one, &one_triangles) == CBGRID_OK);
+    EXPECT(triangles == one_triangles);
+    struct cbgrid_matrix *all[] = {numbers, one_numbers, panels, one};
+    for (size_t k = 0; k < sizeof all / sizeof *all; k++) cbgrid_matrix_free(all[k]);
+    EXPECT(live == 0);
+}
+
 int main(void) {
     test_panels();
     test_masked_panels();
@@ -215,5 +340,7 @@ int main(void) {
     test_ends();
     test_codes_of_factors();
     test_codes_of_masked_factors();
+    test_calls_on_panels();
+    test_graphs_in_panels();
     return report();
 }
