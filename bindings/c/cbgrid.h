@@ -30,7 +30,8 @@
  *
  * Memory. A matrix that a call writes to `out` is new and yours; free it with cbgrid_matrix_free. Lists and texts are
  * malloc'ed; free them with cbgrid_free_columns and cbgrid_free_text. A call only writes to `out`: if `out` still holds a
- * result, free that result first. Unless its comment says otherwise, a call copies no operand. The same matrix may be
+ * result, free that result first. Unless its comment says otherwise, a call copies no operand; one that
+ * several threads made may first be copied into one piece. The same matrix may be
  * passed for several operands.
  *
  * Threads. Any number of threads may call any function at once, also on the same matrices, as long as no thread writes to

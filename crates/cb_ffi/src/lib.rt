@@ -1,7 +1,8 @@
 //! The kernel for programs in C: operations on kept sparse matrices.
 //!
-//! A kept matrix ([`Owned`], [`Lent`]) is a block over one semiring, behind an opaque pointer. A call takes kept matrices,
-//! reads their blocks where they are, and writes a new kept matrix to `out`. It returns 0 if it has written its result.
+//! A kept matrix ([`Owned`], [`Lent`]) is a matrix over one semiring, behind an opaque pointer, in a panel for each thread that
+//! made some of it. A call takes kept matrices, reads a single panel where it is and most of several from a copy in one block,
+//! and writes a new kept matrix to `out`. It returns 0 if it has written its result.
 //! Otherwise it returns the number of the first fault ([`Fault::code`]) and leaves `out` as it was. It looks for all faults
 //! before it takes memory, except for those of a text, which it finds while it reads.
 //!
@@ -805,7 +806,7 @@ pub extern "C" fn cbgrid_kernel_kept_outside_panel(
 }
 
 /// Joins two panels of a product: puts the entries of a kept matrix behind those of another, whose columns are all before its
-/// own. Takes both back, and copies the entries of the second. The result is at the pointer of the first. The caller then
+/// own. Takes both back, and copies no entry. The result is at the pointer of the first. The caller then
 /// frees the memory at the pointer of the second, and at a fault that at the pointer of the first too.
 #[unsafe(no_mangle)]
 pub extern "C" fn cbgrid_kernel_kept_join(

@@ -44,7 +44,8 @@ coo matrix is sorted in a copy, and costs what its entries cost, whatever its sh
 as long as one of their sides.
 
 **Matrix.** A `Matrix` is kept by the library, over one semiring. It is built once from a matrix of scipy or
-numpy, and never changes. Operations on it, except for searches, copy no operand. All functions except `read`
+numpy, and never changes. Operations on it, except for searches, copy no operand, unless it was made by several
+`threads` and is needed in one piece. All functions except `read`
 also accept a `Matrix` as their first matrix. They then work over its semiring, the other operands may be
 matrices of scipy, and a result that is a matrix is a `Matrix`. Functions of graphs need a `Matrix` over
 ``or-and``; `relax` and `relax_given` need one over ``min-plus``.
