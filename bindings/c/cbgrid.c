@@ -1,12 +1,12 @@
 /*
  * The C side of cbgrid. It looks for null pointers, replaces the null pointer of an empty list by a valid one, turns
- * the number of a diagonal into a place on it, picks the proved product that a struct cbgrid_how asks for, starts and joins
- * threads, calls the proved library crates/cb_ffi, and frees. Compressed rows are the compressed columns of the transpose:
+ * the number of a diagonal into a place on it, picks the proved product that a struct cbgrid_how asks for, gives threads their
+ * shares, calls the proved library crates/cb_ffi, and frees. Compressed rows are the compressed columns of the transpose:
  * calls on them make two proved calls. The library does everything else.
  */
 #include "kernel.h"
+#include "pool.h"
 
-#include <pthread.h>
 #include <stdlib.h>
 
 /* What an empty list points to: a slice is never null. */
@@ -209,30 +209,6 @@ int cbgrid_matrix_row_sums(const struct cbgrid_matrix *a, struct cbgrid_matrix *
     return hand(cbgrid_kernel_kept_row_sums((kept){a}, &made), made, out);
 }
 
-int cbgrid_matrix_column_sums(const struct cbgrid_matrix *a, struct cbgrid_matrix **out) {
-    struct owned made = {NULL};
-    if (!a || !out) return CBGRID_NULL_POINTER;
-    return hand(cbgrid_kernel_kept_column_sums((kept){a}, &made), made, out);
-}
-
-int cbgrid_matrix_add(const struct cbgrid_matrix *a, const struct cbgrid_matrix *b, struct cbgrid_matrix **out) {
-    struct owned made = {NULL};
-    if (!a || !b || !out) return CBGRID_NULL_POINTER;
-    return hand(cbgrid_kernel_kept_add((kept){a}, (kept){b}, &made), made, out);
-}
-
-int cbgrid_matrix_times(const struct cbgrid_matrix *a, const struct cbgrid_matrix *b, struct cbgrid_matrix **out) {
-    struct owned made = {NULL};
-    if (!a || !b || !out) return CBGRID_NULL_POINTER;
-    return hand(cbgrid_kernel_kept_times((kept){a}, (kept){b}, &made), made, out);
-}
-
-int cbgrid_matrix_prune(const struct cbgrid_matrix *a, uint32_t test, uint64_t bound, struct cbgrid_matrix **out) {
-    struct owned made = {NULL};
-    if (!a || !out) return CBGRID_NULL_POINTER;
-    return hand(cbgrid_kernel_kept_prune((kept){a}, test, bound, &made), made, out);
-}
-
 int cbgrid_matrix_select(const struct cbgrid_matrix *a, uint32_t region, int64_t diagonal, struct cbgrid_matrix **out) {
     struct owned made = {NULL};
     if (!a || !out) return CBGRID_NULL_POINTER;
@@ -412,77 +388,58 @@ void cbgrid_matrix_free(struct cbgrid_matrix *a) {
 }
 
 /*
- * ---- Products. One thread makes a product by one proved call. For several threads the library parts the columns of the
- * product, makes the panel of each range, and joins panels; here a thread is started for each panel.
+ * ---- Calls that several threads share. For each the library has three calls: one that does it all, one that parts the columns of
+ * the result, and one that makes the columns of a range, which it then puts beside one another. Here they are given to threads.
  */
 
-/* Where a product is made: at all places, at those where the mask has an entry, or at those where it has none. */
-enum places { EVERYWHERE, UNDER_MASK, OUTSIDE_MASK };
+/* How many threads a call uses. */
+static _Atomic uint32_t thread_count = 1;
 
-struct product {
-    enum places places;
-    const struct cbgrid_matrix *a, *b, *mask;
-};
-
-/* The columns from `first` up to `end` of a product, and the thread that makes them. */
-struct panel {
-    const struct product *product;
-    uint32_t first, end, code;
-    struct owned made;
-    pthread_t thread;
-    int is_started;
-};
-
-static void *make_panel(void *at) {
-    struct panel *it = at;
-    const struct product *p = it->product;
-    kept a = {p->a}, b = {p->b}, mask = {p->mask};
-    switch (p->places) {
-    case EVERYWHERE:
-        it->code = cbgrid_kernel_kept_panel(a, b, it->first, it->end, &it->made);
-        break;
-    case UNDER_MASK:
-        it->code = cbgrid_kernel_kept_masked_panel(a, b, mask, it->first, it->end, &it->made);
-        break;
-    case OUTSIDE_MASK:
-        it->code = cbgrid_kernel_kept_outside_panel(a, b, mask, it->first, it->end, &it->made);
-        break;
-    }
-    return NULL;
+void cbgrid_threads(uint32_t count) {
+    thread_count = count < 1 ? 1 : count < CBGRID_MOST_THREADS ? count : CBGRID_MOST_THREADS;
 }
 
-/* A panel for each range that has columns, or one without columns. Returns how many. */
-static size_t panels_of(const struct product *product, const uint32_t *ends, size_t count, struct panel *panels) {
+/* A call: its operands, and the three of the library. */
+struct call {
+    kept a, b, mask;
+    uint32_t test;
+    uint64_t bound;
+    uint32_t (*whole)(const struct call *it, struct owned *made);
+    uint32_t (*ends)(const struct call *it, uint32_t *ends, size_t count);
+    uint32_t (*columns)(const struct call *it, uint32_t first, uint32_t end, struct owned *made);
+};
+
+/* The columns from `first` up to `end` of the result of a call. */
+struct range {
+    const struct call *call;
+    uint32_t first, end, code;
+    struct owned made;
+};
+
+static void make_columns(void *ranges, size_t n) {
+    struct range *it = (struct range *)ranges + n;
+    it->code = it->call->columns(it->call, it->first, it->end, &it->made);
+}
+
+/* The ranges that have columns, or one without columns. Returns how many. */
+static size_t ranges_of(const struct call *call, const uint32_t *ends, size_t count, struct range *ranges) {
     size_t used = 0;
     uint32_t first = 0;
     for (size_t n = 0; n < count; n++) {
         if (ends[n] == first && (used || n + 1 < count)) continue;
-        panels[used++] = (struct panel){.product = product, .first = first, .end = ends[n]};
+        ranges[used++] = (struct range){.call = call, .first = first, .end = ends[n]};
         first = ends[n];
     }
     return used;
 }
 
-/* Makes all panels. The caller's thread makes the first, and those for which no thread can be started. */
-static void make_panels(struct panel *panels, size_t count) {
-    for (size_t n = 1; n < count; n++) {
-        panels[n].is_started = !pthread_create(&panels[n].thread, NULL, make_panel, &panels[n]);
-    }
-    for (size_t n = 0; n < count; n++) {
-        if (!panels[n].is_started) make_panel(&panels[n]);
-    }
-    for (size_t n = 1; n < count; n++) {
-        if (panels[n].is_started) pthread_join(panels[n].thread, NULL);
-    }
-}
-
-/* Joins the panels, one after another, to the first. Frees all of them if one wasn't made or can't be joined. */
-static uint32_t join_panels(struct panel *panels, size_t count, struct owned *out) {
+/* Puts the columns of all ranges beside those of the first. Frees all of them if some weren't made or can't be joined. */
+static uint32_t join_ranges(struct range *ranges, size_t count, struct owned *out) {
     uint32_t code = CBGRID_OK;
-    for (size_t n = 0; n < count && !code; n++) code = panels[n].code;
-    struct owned whole = panels[0].made;
+    for (size_t n = 0; n < count && !code; n++) code = ranges[n].code;
+    struct owned whole = ranges[0].made;
     for (size_t n = 1; n < count; n++) {
-        struct owned front = whole, back = panels[n].made;
+        struct owned front = whole, back = ranges[n].made;
         if (code) {
             cbgrid_matrix_free(back.at);
             continue;
@@ -496,54 +453,149 @@ static uint32_t join_panels(struct panel *panels, size_t count, struct owned *ou
     return code;
 }
 
-/* The product by one call. A plain product with one column has a call of its own, for vectors. */
-static uint32_t by_one_thread(const struct product *p, struct owned *made) {
-    kept a = {p->a}, b = {p->b}, mask = {p->mask};
-    switch (p->places) {
-    case UNDER_MASK: return cbgrid_kernel_kept_multiply_masked(a, b, mask, made);
-    case OUTSIDE_MASK: return cbgrid_kernel_kept_multiply_outside(a, b, mask, made);
-    default: break;
-    }
-    if (cbgrid_matrix_ncols(p->b) == 1) return cbgrid_kernel_kept_vector(a, b, made);
-    return cbgrid_kernel_kept_multiply(a, b, made);
-}
-
-/* If the columns can't be parted, one thread does it all: it finds the faults in their order, also those of the mask. */
-static uint32_t by_threads(const struct product *p, uint32_t threads, struct owned *made) {
-    struct panel panels[CBGRID_MOST_THREADS];
+/* If the columns can't be parted, one thread does it all: it finds the faults in their order. So it does if they are too few. */
+static uint32_t by_threads(const struct call *it, uint32_t threads, struct owned *made) {
+    struct range ranges[CBGRID_MOST_THREADS];
     uint32_t ends[CBGRID_MOST_THREADS];
     size_t count = threads < CBGRID_MOST_THREADS ? threads : CBGRID_MOST_THREADS;
-    if (count < 2 || cbgrid_kernel_kept_ends((kept){p->a}, (kept){p->b}, ends, count)) return by_one_thread(p, made);
-    size_t used = panels_of(p, ends, count, panels);
-    make_panels(panels, used);
-    return join_panels(panels, used, made);
+    if (count < 2 || it->ends(it, ends, count)) return it->whole(it, made);
+    size_t used = ranges_of(it, ends, count, ranges);
+    if (used < 2) return it->whole(it, made);
+    share_out(make_columns, ranges, used);
+    return join_ranges(ranges, used, made);
+}
+
+/* The ranges of an operation's columns have about as many entries of its operands. */
+static uint32_t ends_by_entries(const struct call *it, uint32_t *ends, size_t count) {
+    return cbgrid_kernel_kept_entry_ends(it->a, it->b.at ? it->b : it->a, ends, count);
+}
+
+static uint32_t sum(const struct call *it, struct owned *made) {
+    return cbgrid_kernel_kept_add(it->a, it->b, made);
+}
+static uint32_t sum_columns(const struct call *it, uint32_t first, uint32_t end, struct owned *made) {
+    return cbgrid_kernel_kept_add_columns(it->a, it->b, first, end, made);
+}
+
+int cbgrid_matrix_add(const struct cbgrid_matrix *a, const struct cbgrid_matrix *b, struct cbgrid_matrix **out) {
+    struct call it = {.a = {a}, .b = {b}, .whole = sum, .ends = ends_by_entries, .columns = sum_columns};
+    struct owned made = {NULL};
+    if (!a || !b || !out) return CBGRID_NULL_POINTER;
+    return hand(by_threads(&it, thread_count, &made), made, out);
+}
+
+static uint32_t times(const struct call *it, struct owned *made) {
+    return cbgrid_kernel_kept_times(it->a, it->b, made);
+}
+static uint32_t times_columns(const struct call *it, uint32_t first, uint32_t end, struct owned *made) {
+    return cbgrid_kernel_kept_times_columns(it->a, it->b, first, end, made);
+}
+
+int cbgrid_matrix_times(const struct cbgrid_matrix *a, const struct cbgrid_matrix *b, struct cbgrid_matrix **out) {
+    struct call it = {.a = {a}, .b = {b}, .whole = times, .ends = ends_by_entries, .columns = times_columns};
+    struct owned made = {NULL};
+    if (!a || !b || !out) return CBGRID_NULL_POINTER;
+    return hand(by_threads(&it, thread_count, &made), made, out);
+}
+
+static uint32_t pruned(const struct call *it, struct owned *made) {
+    return cbgrid_kernel_kept_prune(it->a, it->test, it->bound, made);
+}
+static uint32_t pruned_columns(const struct call *it, uint32_t first, uint32_t end, struct owned *made) {
+    return cbgrid_kernel_kept_prune_columns(it->a, it->test, it->bound, first, end, made);
+}
+
+int cbgrid_matrix_prune(const struct cbgrid_matrix *a, uint32_t test, uint64_t bound, struct cbgrid_matrix **out) {
+    struct call it = {.a = {a}, .test = test, .bound = bound,
+                      .whole = pruned, .ends = ends_by_entries, .columns = pruned_columns};
+    struct owned made = {NULL};
+    if (!a || !out) return CBGRID_NULL_POINTER;
+    return hand(by_threads(&it, thread_count, &made), made, out);
+}
+
+/* A sum takes less time than a thread takes to wake, unless there are many. */
+#define LEAST_SUMMED 65536u
+
+static uint32_t ends_of_sums(const struct call *it, uint32_t *ends, size_t count) {
+    uint64_t most = cbgrid_matrix_entries(it->a.at) / LEAST_SUMMED;
+    for (size_t n = 0; n < count; n++) ends[n] = cbgrid_matrix_ncols(it->a.at);
+    return ends_by_entries(it, ends, count < most ? count : most);
+}
+
+static uint32_t column_sums(const struct call *it, struct owned *made) {
+    return cbgrid_kernel_kept_column_sums(it->a, made);
+}
+static uint32_t column_sums_columns(const struct call *it, uint32_t first, uint32_t end, struct owned *made) {
+    return cbgrid_kernel_kept_column_sums_columns(it->a, first, end, made);
+}
+
+int cbgrid_matrix_column_sums(const struct cbgrid_matrix *a, struct cbgrid_matrix **out) {
+    struct call it = {.a = {a}, .whole = column_sums, .ends = ends_of_sums, .columns = column_sums_columns};
+    struct owned made = {NULL};
+    if (!a || !out) return CBGRID_NULL_POINTER;
+    return hand(by_threads(&it, thread_count, &made), made, out);
+}
+
+/* ---- Products: the ranges of their columns take about as many products of two values. */
+static uint32_t ends_by_products(const struct call *it, uint32_t *ends, size_t count) {
+    return cbgrid_kernel_kept_ends(it->a, it->b, ends, count);
+}
+
+/* A product with one column has a call of its own, for vectors. */
+static uint32_t product(const struct call *it, struct owned *made) {
+    if (cbgrid_matrix_ncols(it->b.at) == 1) return cbgrid_kernel_kept_vector(it->a, it->b, made);
+    return cbgrid_kernel_kept_multiply(it->a, it->b, made);
+}
+static uint32_t product_columns(const struct call *it, uint32_t first, uint32_t end, struct owned *made) {
+    return cbgrid_kernel_kept_panel(it->a, it->b, first, end, made);
+}
+
+static uint32_t product_under(const struct call *it, struct owned *made) {
+    return cbgrid_kernel_kept_multiply_masked(it->a, it->b, it->mask, made);
+}
+static uint32_t product_under_columns(const struct call *it, uint32_t first, uint32_t end, struct owned *made) {
+    return cbgrid_kernel_kept_masked_panel(it->a, it->b, it->mask, first, end, made);
+}
+
+static uint32_t product_outside(const struct call *it, struct owned *made) {
+    return cbgrid_kernel_kept_multiply_outside(it->a, it->b, it->mask, made);
+}
+static uint32_t product_outside_columns(const struct call *it, uint32_t first, uint32_t end, struct owned *made) {
+    return cbgrid_kernel_kept_outside_panel(it->a, it->b, it->mask, first, end, made);
+}
+
+/* The product that is asked for, of factors that aren't transposed. */
+static struct call product_of(const struct cbgrid_matrix *a, const struct cbgrid_matrix *b, const struct cbgrid_how *how) {
+    struct call it = {.a = {a}, .b = {b}, .mask = {how->mask}, .ends = ends_by_products};
+    if (!how->mask) it.whole = product, it.columns = product_columns;
+    else if (!how->complement) it.whole = product_under, it.columns = product_under_columns;
+    else it.whole = product_outside, it.columns = product_outside_columns;
+    return it;
 }
 
 /* The first fault of a product of which a factor is to be transposed: no memory is taken for that if there is one. A mask that
  * isn't given has no semiring and no shape. */
-static uint32_t fault_of(const struct product *p, const struct cbgrid_how *how) {
-    struct summary a = summary_of(p->a), b = summary_of(p->b), mask = summary_of(p->mask);
-    if (a.semiring != b.semiring || (p->mask && a.semiring != mask.semiring)) return CBGRID_MIXED;
+static uint32_t fault_of(const struct call *it, const struct cbgrid_how *how) {
+    struct summary a = summary_of(it->a.at), b = summary_of(it->b.at), mask = summary_of(how->mask);
+    if (a.semiring != b.semiring || (how->mask && a.semiring != mask.semiring)) return CBGRID_MIXED;
     uint32_t rows = how->transpose_a ? a.ncols : a.nrows, left = how->transpose_a ? a.nrows : a.ncols;
     uint32_t cols = how->transpose_b ? b.nrows : b.ncols, right = how->transpose_b ? b.ncols : b.nrows;
-    if (left != right || (p->mask && (mask.nrows != rows || mask.ncols != cols))) return CBGRID_SHAPES;
+    if (left != right || (how->mask && (mask.nrows != rows || mask.ncols != cols))) return CBGRID_SHAPES;
     return CBGRID_OK;
 }
 
 /* The same product with the factors transposed that are to be. One thread makes a plain one by one call; otherwise they are
  * transposed here, and freed again. */
-static uint32_t of_transposed(struct product p, const struct cbgrid_how *how, struct owned *made) {
+static uint32_t of_transposed(struct call it, const struct cbgrid_how *how, uint32_t threads, struct owned *made) {
     uint32_t turn_a = how->transpose_a != 0, turn_b = how->transpose_b != 0;
-    if (p.places == EVERYWHERE && how->threads < 2) {
-        return cbgrid_kernel_kept_multiply_turned((kept){p.a}, turn_a, (kept){p.b}, turn_b, made);
-    }
+    if (!how->mask && threads < 2) return cbgrid_kernel_kept_multiply_turned(it.a, turn_a, it.b, turn_b, made);
     struct owned a = {NULL}, b = {NULL};
-    uint32_t code = fault_of(&p, how);
-    if (!code && turn_a) code = cbgrid_kernel_kept_transpose((kept){p.a}, &a);
-    if (!code && turn_b) code = cbgrid_kernel_kept_transpose((kept){p.b}, &b);
-    if (a.at) p.a = a.at;
-    if (b.at) p.b = b.at;
-    if (!code) code = by_threads(&p, how->threads, made);
+    uint32_t code = fault_of(&it, how);
+    if (!code && turn_a) code = cbgrid_kernel_kept_transpose(it.a, &a);
+    if (!code && turn_b) code = cbgrid_kernel_kept_transpose(it.b, &b);
+    if (a.at) it.a.at = a.at;
+    if (b.at) it.b.at = b.at;
+    if (!code) code = by_threads(&it, threads, made);
     cbgrid_matrix_free(a.at);
     cbgrid_matrix_free(b.at);
     return code;
@@ -554,10 +606,11 @@ int cbgrid_matrix_multiply(const struct cbgrid_matrix *a, const struct cbgrid_ma
     static const struct cbgrid_how plain = {NULL, 0, 0, 0, 0};
     if (!how) how = &plain;
     if (!a || !b || !out || (how->complement && !how->mask)) return CBGRID_NULL_POINTER;
-    struct product product = {how->complement ? OUTSIDE_MASK : how->mask ? UNDER_MASK : EVERYWHERE, a, b, how->mask};
+    struct call it = product_of(a, b, how);
+    uint32_t threads = how->threads ? how->threads : thread_count;
     struct owned made = {NULL};
     int is_transposed = how->transpose_a || how->transpose_b;
-    return hand(is_transposed ? of_transposed(product, how, &made) : by_threads(&product, how->threads, &made), made, out);
+    return hand(is_transposed ? of_transposed(it, how, threads, &made) : by_threads(&it, threads, &made), made, out);
 }
 
 const char *cbgrid_version(void) {

@@ -22,8 +22,8 @@
  * Errors. A call returns CBGRID_OK (0) if it has written its result. Otherwise it returns the code of the first
  * fault and leaves `out` as it was. It looks for null pointers first, and then, unless its comment gives another order, for
  * the other faults in the order of their codes. CBGRID_MEMORY means that there is no other fault, except while a text is
- * read: then it may come before a fault of the text is found. The operands don't change. No call prints, exits, aborts or
- * keeps state between calls. The library needs no initialization and no shutdown.
+ * read: then it may come before a fault of the text is found. The operands don't change. No call prints, exits or aborts,
+ * and none keeps anything for the next but sleeping threads. The library needs no initialization and no shutdown.
  *
  * Each call may return CBGRID_NULL_POINTER and, if it makes something, CBGRID_MEMORY; CBGRID_SEMIRING if it takes a semiring;
  * and CBGRID_MIXED if it takes several matrices and they are over different semirings. The comments name the other codes.
@@ -36,14 +36,14 @@
  *
  * Threads. Any number of threads may call any function at once, also on the same matrices, as long as no thread writes to
  * lists or structs that a running call reads. Free a matrix only when no running call uses it. A call runs on the caller's
- * thread alone, except for a product that is given more threads. Don't call a function from a signal handler.
+ * thread alone, unless cbgrid_threads or a struct cbgrid_how asks for more. Don't call a function from a signal handler.
  *
  * What is proved. For every input, each call is proved to stay within the lists that you pass, to terminate, and to
  * give exactly the result that its comment describes. The proofs run whenever libcb_ffi.a is built (docs/PROMISES.md).
  * Not proved are this header and cbgrid.c (null pointers, messages, freeing; that compressed rows are the compressed
  * columns of the transpose; the triples of a matrix; which place stands for a diagonal; which of the proved products a
- * struct cbgrid_how asks for; that threads make each panel of a product, and that all are put side by side in order), the C compiler,
- * malloc and POSIX threads.
+ * struct cbgrid_how asks for; that threads make each range of columns once, and that all are put side by side in order), the C
+ * compiler, malloc and POSIX threads.
  *
  * What the library relies on. Pointers are aligned for their type and lead to as many elements as the length says.
  * Nobody changes these elements while a call runs. Matrices haven't been freed.
@@ -68,6 +68,11 @@ extern "C" {
 
 /* The most threads that one call uses. */
 #define CBGRID_MOST_THREADS 256u
+
+/* Sets how many threads each call may use from now on, the caller's among them: at first 1, at most CBGRID_MOST_THREADS; 0 is 1.
+ * Products, sums and products element-wise, prunes and column sums use them, as far as each thread gets enough to do; the others
+ * use the caller's. The library starts threads when it first needs them, and they sleep between calls. */
+void cbgrid_threads(uint32_t count);
 
 /*
  * How values are added and multiplied. A place without an entry has the semiring's zero.
@@ -289,8 +294,7 @@ struct cbgrid_how {
                                          value; a null pointer: everywhere */
     int complement;                   /* not 0: only at the places where the mask has no entry */
     int transpose_a, transpose_b;     /* not 0: multiplies the transpose of a, or of b */
-    uint32_t threads;                 /* by up to this many threads, at most CBGRID_MOST_THREADS: the caller's and new ones,
-                                         which have ended when the call returns */
+    uint32_t threads;                 /* by up to this many threads instead of those of cbgrid_threads; 0: by those */
 };
 
 /*

@@ -1,5 +1,9 @@
-/* Several threads on one matrix, and products by several threads, beside the product by one. */
+/* Several threads on one matrix, and calls by several threads, beside the same by one. */
+#define _POSIX_C_SOURCE 200809L
+
 #include <pthread.h>
+#include <sys/wait.h>
+#include <unistd.h>
 
 #include "check.h"
 
@@ -61,22 +65,158 @@ static void free_operands(struct operands *of) {
     cbgrid_matrix_free(of->mask);
 }
 
-/* Multiplies two factors by several numbers of threads, all of which start, or only some. */
+/* Multiplies two factors by several numbers of threads. */
 static void multiply_by_threads(int places, const struct operands *of) {
     static const uint32_t counts[] = {0, 1, 2, 3, 8, 1000};
     struct cbgrid_matrix *want, *made;
     EXPECT(by_one(places, of, &want) == CBGRID_OK);
     for (size_t n = 0; n < sizeof counts / sizeof *counts; n++) {
-        for (threads_left = -1; threads_left < 2; threads_left++) {
-            long can_start = threads_left;
-            made = NULL;
-            EXPECT(by_threads(places, of, counts[n], &made) == CBGRID_OK && is_same(made, want));
-            cbgrid_matrix_free(made);
-            threads_left = can_start;
+        made = NULL;
+        EXPECT(by_threads(places, of, counts[n], &made) == CBGRID_OK && is_same(made, want));
+        cbgrid_matrix_free(made);
+    }
+    cbgrid_matrix_free(want);
+}
+
+/* ---- Calls that use the threads of cbgrid_threads. */
+static int product_of(const struct operands *of, struct cbgrid_matrix **out) {
+    return cbgrid_matrix_multiply(of->a, of->b, NULL, out);
+}
+static int sum_of(const struct operands *of, struct cbgrid_matrix **out) { return cbgrid_matrix_add(of->a, of->b, out); }
+static int times_of(const struct operands *of, struct cbgrid_matrix **out) { return cbgrid_matrix_times(of->a, of->b, out); }
+static int pruned_of(const struct operands *of, struct cbgrid_matrix **out) {
+    return cbgrid_matrix_prune(of->a, CBGRID_EQUAL, 1, out);
+}
+static int column_sums_of(const struct operands *of, struct cbgrid_matrix **out) {
+    return cbgrid_matrix_column_sums(of->a, out);
+}
+
+static int (*const calls[])(const struct operands *of, struct cbgrid_matrix **out) = {
+    product_of, sum_of, times_of, pruned_of, column_sums_of,
+};
+#define CALLS (sizeof calls / sizeof *calls)
+
+/* Operands of the same shape, and a share for each of several threads; a column, which can't be parted. The product of those that
+ * aren't square is refused. */
+static const struct factors operands_of_calls[] = {
+    {300, 300, 300, 1, 1}, {700, 700, 700, 9, 3}, {2, 60000, 60000, 1, 1}, {60000, 1, 1, 1, 1}, {0, 0, 0, 0, 0},
+};
+
+static struct operands same_shape(uint32_t semiring, const struct factors *f) {
+    return (struct operands){
+        random_kept(semiring, f->nrows, f->ncols, f->one_of_a), random_kept(semiring, f->nrows, f->ncols, f->one_of_b), NULL,
+    };
+}
+
+static void test_shared_calls(int is_few) {
+    static const uint32_t counts[] = {0, 2, 3, 4, 1000};
+    for (uint32_t semiring = 0; semiring < SEMIRINGS; semiring += is_few ? SEMIRINGS : 3) {
+        for (size_t n = 0; n < sizeof operands_of_calls / sizeof *operands_of_calls; n++) {
+            struct operands of = same_shape(semiring, &operands_of_calls[n]);
+            for (size_t k = 0; k < CALLS; k++) {
+                struct cbgrid_matrix *want = NULL;
+                cbgrid_threads(1);
+                int code = calls[k](&of, &want);
+                for (size_t m = 0; m < sizeof counts / sizeof *counts; m++) {
+                    struct cbgrid_matrix *made = NULL;
+                    cbgrid_threads(counts[m]);
+                    EXPECT(calls[k](&of, &made) == code && (code || is_same(made, want)));
+                    cbgrid_matrix_free(made);
+                }
+                cbgrid_matrix_free(want);
+            }
+            free_operands(&of);
+            EXPECT(live == 0);
         }
     }
+    cbgrid_threads(1);
+}
+
+/* The threads that a call starts, refused: all of them, or all but one or two. It is this program's first call by threads. Then in
+ * a child, which has none of its parent's; valgrind takes what they had for lost there. */
+static void test_threads_refused(int is_few) {
+    struct operands of = same_shape(0, &operands_of_calls[0]);
+    struct cbgrid_matrix *want;
+    EXPECT(sum_of(&of, &want) == CBGRID_OK);
+    cbgrid_threads(4);
+    for (long can_start = 0; can_start < 3; can_start++) {
+        struct cbgrid_matrix *made = NULL;
+        threads_left = can_start;
+        EXPECT(sum_of(&of, &made) == CBGRID_OK && is_same(made, want) && threads_left == 0);
+        cbgrid_matrix_free(made);
+    }
     threads_left = -1;
+    int status = 0;
+    pid_t child = is_few ? 0 : fork();
+    if (!is_few && child == 0) {
+        struct cbgrid_matrix *made = NULL;
+        _exit(sum_of(&of, &made) == CBGRID_OK && is_same(made, want) ? 7 : 1);
+    }
+    if (!is_few) EXPECT(child > 0 && waitpid(child, &status, 0) == child && WIFEXITED(status) && WEXITSTATUS(status) == 7);
+    cbgrid_threads(1);
     cbgrid_matrix_free(want);
+    free_operands(&of);
+    EXPECT(live == 0);
+}
+
+/* Each allocation of a call by four threads refused in turn. */
+static void test_calls_refused_memory(size_t k, int step) {
+    struct operands of = same_shape(0, &operands_of_calls[0]);
+    struct cbgrid_matrix *want, *made, *const was = (struct cbgrid_matrix *)&made;
+    long refused = 0;
+    EXPECT(calls[k](&of, &want) == CBGRID_OK);
+    cbgrid_threads(4);
+    long before = live;
+    for (long n = 0, more = 1; more; n += step) {
+        made = was, left = n;
+        int code = calls[k](&of, &made);
+        more = left < 0;
+        left = -1;
+        refused += code == CBGRID_MEMORY;
+        EXPECT(code == CBGRID_OK || (more && code == CBGRID_MEMORY));
+        EXPECT(code == CBGRID_OK ? is_same(made, want) : made == was);
+        if (code == CBGRID_OK) cbgrid_matrix_free(made);
+        EXPECT(live == before);
+    }
+    EXPECT(refused > 0);
+    printf("memory of a call by threads was refused %ld times\n", refused);
+    cbgrid_threads(1);
+    cbgrid_matrix_free(want);
+    free_operands(&of);
+    EXPECT(live == 0);
+}
+
+/* Each call by threads has the faults of the whole, also where the first allocation would be refused. */
+static void test_calls_codes(void) {
+    struct cbgrid_matrix *a = random_kept(0, 300, 300, 1), *wide = random_kept(0, 300, 301, 1);
+    struct cbgrid_matrix *other = random_kept(1, 300, 301, 1);
+    const struct {
+        size_t call;
+        struct operands of;
+        int code;
+    } rows[] = {
+        {0, {a, other, NULL}, CBGRID_MIXED}, {0, {wide, a, NULL}, CBGRID_SHAPES},      {1, {a, other, NULL}, CBGRID_MIXED},
+        {1, {a, wide, NULL}, CBGRID_SHAPES}, {2, {wide, other, NULL}, CBGRID_MIXED},   {2, {wide, a, NULL}, CBGRID_SHAPES},
+        {1, {a, NULL, NULL}, CBGRID_NULL_POINTER}, {3, {NULL, a, NULL}, CBGRID_NULL_POINTER},
+        {4, {NULL, a, NULL}, CBGRID_NULL_POINTER},
+    };
+    struct cbgrid_matrix *out = NULL;
+    cbgrid_threads(4);
+    for (size_t n = 0; n < sizeof rows / sizeof *rows; n++) {
+        for (left = -1; left < 1; left++) {
+            long can_take = left;
+            EXPECT(calls[rows[n].call](&rows[n].of, &out) == rows[n].code && !out);
+            left = can_take;
+        }
+    }
+    left = 0;
+    EXPECT(cbgrid_matrix_prune(a, 7, 1, &out) == CBGRID_TEST && !out);
+    left = -1;
+    cbgrid_threads(1);
+    cbgrid_matrix_free(a);
+    cbgrid_matrix_free(wide);
+    cbgrid_matrix_free(other);
+    EXPECT(live == 0);
 }
 
 /* A mask has an entry in a quarter of the places. */
@@ -164,8 +304,12 @@ static void test_threads_codes(void) {
 }
 
 void test_threads(int is_few) {
+    test_threads_refused(is_few);
     test_shared_matrix();
     test_shared_products(is_few);
     for (int places = 0; places < PLACES; places++) test_threads_refused_memory(places, is_few ? 9 : 1);
     test_threads_codes();
+    test_shared_calls(is_few);
+    for (size_t k = 1; k < CALLS; k++) test_calls_refused_memory(k, is_few ? 9 : 1);
+    test_calls_codes();
 }

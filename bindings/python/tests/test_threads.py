@@ -1,4 +1,4 @@
-"""Tests of products by several threads, beside the product by one."""
+"""Tests of calls by several threads, beside the same by one."""
 
 import threading
 import unittest
@@ -70,7 +70,22 @@ class Threads(unittest.TestCase):
             it.join()
         self.assertEqual([it == want for it in made], [True] * 6)
 
+    def test_calls_by_set_threads(self):
+        calls = (lambda a, b: a @ b, lambda a, b: a + b, lambda a, b: a * b, lambda a, b: cbgrid.prune(a, "below", 9), lambda a, b: a.sums("columns"))
+        for semiring in SEMIRINGS:
+            a, b = self.factor(300, 300, 90000, semiring), self.factor(300, 300, 30000, semiring)
+            want = [call(a, b) for call in calls]
+            try:
+                for threads in THREADS:
+                    cbgrid.set_threads(threads)
+                    self.assertEqual([call(a, b) for call in calls], want)
+                    self.assertEqual(a.multiply(b, threads=2), want[0])
+            finally:
+                cbgrid.set_threads(1)
+
     def test_refusals(self):
+        self.assertRaises(ValueError, cbgrid.set_threads, 0)
+        self.assertRaises(TypeError, cbgrid.set_threads, 1.5)
         a = self.factor(3, 4, 5, "plus-times")
         for threads in (0, -1):
             self.assertRaises(ValueError, a.multiply, a.T, threads=threads)

@@ -1,4 +1,4 @@
--- What C gets of the call that parts a product's columns.
+-- What C gets of the calls that part columns into ranges.
 use Rattle.std.proofs.Common.{◌≡◌, ◌≢◌, ℕ, List, length, Result, Ok, Err, ◌∙◌, subst}
 use Rattle.std.specs.Prelude.{Vec, IfOk, IfErr}
 use Rattle.cb_shares.specs.Shares.{AreEnds}

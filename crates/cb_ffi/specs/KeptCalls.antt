@@ -25,6 +25,7 @@ use Rattle.cb_kept.specs.KeptProducts.{outside_faults, IsKeptOutside}
 use Rattle.cb_shares.specs.Shares.{AreEnds}
 use Rattle.cb_kept.specs.declared.kept_masked_panels.Allowed.{Allowed}
 use Rattle.cb_kept.specs.KeptPanels.{factor_faults, join_faults, IsKeptJoin, IsKeptMaskedPanel, IsKeptPanel}
+use Rattle.cb_kept.specs.KeptShares.{pair_faults, HasMadeColumns}
 use Rattle.cb_kept.specs.KeptGraphs.{searches_faults, given_faults, IsKeptColumn}
 use Rattle.cb_kept.specs.Triples.{triple_faults, IsKeptTriples}
 use Rattle.cb_kept.specs.KeptTexts.{IsKeptRead}
@@ -97,7 +98,15 @@ abbrev pub IsReadCall : ℕ → List ℕ → ℕ → Owned → Owned → Type 0
 IsReadCall semiring text code old new =
     IsKeptCallOver semiring (λ s. read_faults s text) (λ s name. IsKeptRead s name text) code old new
 
--- ---- products by several threads
+-- ---- results by several threads
+-- what C gets of the call that parts the columns of two matrices into as many ranges as its list has places
+unfoldable pub IsEntryEndsCall : Kept → Kept → ℕ → List ℕ → List ℕ → Type 0
+IsEntryEndsCall a b code old new = IsCall (pair_faults a b) (AreEnds (length old) (matrix_in a).shape.cols) code old new
+
+-- of the call that keeps the columns of a range of an operation's result
+unfoldable pub IsColumnsCall : Option Operation → ℕ → ℕ → List Kept → ℕ → Owned → Owned → Type 0
+IsColumnsCall operation first end ks code old new = IsKeptCall (kept_faults operation ks) (HasMadeColumns operation first end ks) code old new
+
 -- what C gets of the call that parts a product's columns into as many ranges as its list has places
 unfoldable pub IsEndsCall : Kept → Kept → ℕ → List ℕ → List ℕ → Type 0
 IsEndsCall a b code old new = IsCall (factor_faults a b) (AreEnds (length old) (matrix_in b).shape.cols) code old new

@@ -13,10 +13,10 @@
 //! `semiring` is a number of `cb_semirings::SemiringName`: 0 (plus-times), 1 (min-plus), 2 (or-and), 3 (max-min), and so
 //! on.
 //!
-//! Each call works on the caller's thread. A program with threads divides the columns of a product
-//! ([`cbgrid_kernel_kept_ends`]), makes a panel of it in each thread ([`cbgrid_kernel_kept_panel`],
-//! [`cbgrid_kernel_kept_masked_panel`], [`cbgrid_kernel_kept_outside_panel`]), and joins the panels in order
-//! ([`cbgrid_kernel_kept_join`]).
+//! Each call works on the caller's thread. A program with threads divides the columns of a result
+//! ([`cbgrid_kernel_kept_entry_ends`], [`cbgrid_kernel_kept_ends`] for a product), makes those of a range in each thread
+//! ([`cbgrid_kernel_kept_add_columns`], [`cbgrid_kernel_kept_panel`], [`cbgrid_kernel_kept_masked_panel`] and so on), and
+//! joins them in order ([`cbgrid_kernel_kept_join`]).
 #![tactic(auto)]
 
 ghost use Rattle.std.specs.Prelude.{◌≡◌, ◌≢◌, [], ◌∷◌, length, ◌==◌, not, Option, Some, None, IfSome, IsSome, IfOk, IfErr, option_copied};
@@ -45,17 +45,17 @@ ghost use Rattle.cb_kept.specs.declared.axes.Axis.TheVariants as axis_is;
 ghost use Rattle.cb_kept.specs.declared.kept_masked_panels.Allowed.TheVariants as allowed_is;
 ghost use Rattle.cb_kept.specs.KeptTexts.{IsKeptText};
 ghost use Rattle.cb_ffi.specs.Calls.{IsCall, IsLine};
-ghost use Rattle.cb_ffi.specs.KeptCalls.{HasHandedOut, IsDegreesCall, IsEndsCall, IsExtractCall, IsJoinCall, IsKeepCall, IsKeptCall, IsKeptOperation, IsMaskedPanelCall, IsNumbersFromCall, IsNumbersGivenCall, IsOutsideCall, IsOwnedJoinCall, IsPanelCall, IsReadCall, IsSelectionCall, IsTriplesCall, IsTurnedCall, IsUpdateCall};
+ghost use Rattle.cb_ffi.specs.KeptCalls.{HasHandedOut, IsColumnsCall, IsDegreesCall, IsEndsCall, IsEntryEndsCall, IsExtractCall, IsJoinCall, IsKeepCall, IsKeptCall, IsKeptOperation, IsMaskedPanelCall, IsNumbersFromCall, IsNumbersGivenCall, IsOutsideCall, IsOwnedJoinCall, IsPanelCall, IsReadCall, IsSelectionCall, IsTriplesCall, IsTurnedCall, IsUpdateCall};
 
 mod handles;
 
 use cb_kept::{
     Allowed, Axis, Fault, Kept, Summary, Text, Triple, function_of, keep_lists, keep_triples,
-    kept_components, kept_degrees, kept_ends, kept_extract, kept_join, kept_masked_panel,
-    kept_numbers, kept_numbers_from, kept_numbers_given, kept_outside, kept_panel, kept_parents,
-    kept_selection, kept_total, kept_triangles, kept_turned_product, kept_update, lists_of,
-    operate, power_of, prune_of, read_kept, region_of, summary_of, text_of, value_at,
-    write_back_of,
+    kept_columns, kept_components, kept_degrees, kept_ends, kept_entry_ends, kept_extract,
+    kept_join, kept_masked_panel, kept_numbers, kept_numbers_from, kept_numbers_given,
+    kept_outside, kept_panel, kept_parents, kept_selection, kept_total, kept_triangles,
+    kept_turned_product, kept_update, lists_of, operate, power_of, prune_of, read_kept, region_of,
+    summary_of, text_of, value_at, write_back_of,
 };
 use cb_lists::Columns;
 use cb_operations::{Operation, Selection};
@@ -180,6 +180,30 @@ fn ends_kept(alloc: Global, left: &Kept, right: &Kept, ends: &mut [u32]) -> u32
 {
     let answer = kept_ends(alloc, left, right, ends.len());
     put_ends(ends, answer)
+}
+
+/// Divides the columns of two matrices into as many ranges as C has places for, or returns the number of the fault.
+fn entry_ends_kept(alloc: Global, a: &Kept, b: &Kept, ends: &mut [u32]) -> u32
+    ensures { IsEntryEndsCall a.now b.now result ends.old ends.new }
+{
+    let answer = kept_entry_ends(alloc, a, b, ends.len());
+    put_ends(ends, answer)
+}
+
+/// Keeps some columns of the result of an operation on kept matrices, or returns the number of the fault.
+fn columns_kept(
+    alloc: Global,
+    operation: Option<Operation>,
+    operands: &[&Kept],
+    first: u32,
+    end: u32,
+    out: &mut Owned,
+) -> u32
+    requires { IfSome operation (λ o. length operands.now ≡ operand_count_of o) }
+    ensures { IsColumnsCall operation first end (lent_in operands.now) result out.old out.new }
+{
+    let answer = kept_columns(alloc, operation, operands, first, end);
+    put_kept(alloc, out, answer)
 }
 
 /// Keeps the panel of a product at the places that a mask allows, or returns the number of the fault.
@@ -741,6 +765,84 @@ pub extern "C" fn cbgrid_kernel_kept_value(a: Lent, row: u32, column: u32) -> u6
     ensures { result ≡ at (arithmetic_of (semiring_of a.kept.now)) (matrix_in a.kept.now) row column }
 {
     value_at(borrowed(a), row, column)
+}
+
+/// Parts the columns of two kept matrices into ranges of about as many entries, as many ranges as `ends` has places. Writes the
+/// column at which each range ends and the next begins. Ranges of small matrices may have no columns.
+#[unsafe(no_mangle)]
+pub extern "C" fn cbgrid_kernel_kept_entry_ends(
+    alloc: Global,
+    a: Lent,
+    b: Lent,
+    ends: &mut [u32],
+) -> u32
+    ensures { IsEntryEndsCall a.kept.now b.kept.now result ends.old ends.new }
+{
+    entry_ends_kept(alloc, borrowed(a), borrowed(b), ends)
+}
+
+/// Adds two kept matrices in the columns from `first` up to, but not including, `end`. The result has the shape of the whole.
+#[unsafe(no_mangle)]
+pub extern "C" fn cbgrid_kernel_kept_add_columns(
+    alloc: Global,
+    a: Lent,
+    b: Lent,
+    first: u32,
+    end: u32,
+    out: &mut Owned,
+) -> u32
+    ensures { IsColumnsCall (Some operation_is.Add) first end (a.kept.now ∷ b.kept.now ∷ []) result out.old out.new }
+{
+    let operands = [borrowed(a), borrowed(b)];
+    columns_kept(alloc, Some(Operation::Add), &operands, first, end, out)
+}
+
+/// Multiplies two kept matrices place by place, in the columns of a range.
+#[unsafe(no_mangle)]
+pub extern "C" fn cbgrid_kernel_kept_times_columns(
+    alloc: Global,
+    a: Lent,
+    b: Lent,
+    first: u32,
+    end: u32,
+    out: &mut Owned,
+) -> u32
+    ensures { IsColumnsCall (Some operation_is.Times) first end (a.kept.now ∷ b.kept.now ∷ []) result out.old out.new }
+{
+    let operands = [borrowed(a), borrowed(b)];
+    columns_kept(alloc, Some(Operation::Times), &operands, first, end, out)
+}
+
+/// Drops the entries of a kept matrix whose value passes a test, in the columns of a range.
+#[unsafe(no_mangle)]
+pub extern "C" fn cbgrid_kernel_kept_prune_columns(
+    alloc: Global,
+    a: Lent,
+    test: u32,
+    bound: u64,
+    first: u32,
+    end: u32,
+    out: &mut Owned,
+) -> u32
+    ensures { IsColumnsCall (prune_of test bound) first end (a.kept.now ∷ []) result out.old out.new }
+{
+    let (operands, pruned) = ([borrowed(a)], prune_of(test, bound));
+    columns_kept(alloc, pruned, &operands, first, end, out)
+}
+
+/// Adds up the columns of a range of a kept matrix, into one row of the whole's length.
+#[unsafe(no_mangle)]
+pub extern "C" fn cbgrid_kernel_kept_column_sums_columns(
+    alloc: Global,
+    a: Lent,
+    first: u32,
+    end: u32,
+    out: &mut Owned,
+) -> u32
+    ensures { IsColumnsCall (Some operation_is.ColumnSums) first end (a.kept.now ∷ []) result out.old out.new }
+{
+    let (operands, sums) = ([borrowed(a)], Some(Operation::ColumnSums));
+    columns_kept(alloc, sums, &operands, first, end, out)
 }
 
 /// Parts the columns of the product of two kept matrices into ranges that take about as many products of two values, as many

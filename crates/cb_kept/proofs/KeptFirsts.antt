@@ -12,6 +12,8 @@ use Rattle.cb_kept.specs.declared.faults.Fault.TheVariants.{Test, Mixed, Shapes}
 use Rattle.cb_kept.specs.declared.kept.Kept.{Kept}
 use Rattle.cb_operations.specs.Operands.{lent_in}
 use Rattle.cb_kept.specs.Kept.{Keeps, semiring_of, semiring_in, matrix_in, AreOver}
+use Rattle.cb_shares.specs.Shares.{panel}
+use Rattle.cb_kept.specs.KeptShares.{HasMadeColumns}
 use Rattle.cb_kept.specs.KeptAnswers.{kept_faults, HasMadeKept}
 use Rattle.cb_kept.specs.Answers.{NoFault}
 use Rattle.cb_kept.proofs.Firsts.{passed, no_more}
@@ -61,6 +63,10 @@ module _ (o : Operation) (ks : List Kept) where
   -- the result, over the semiring of all operands
   pub made_kept : (name : SemiringName) (k : Kept) → name ≡ semiring_in ks → Keeps name (answer_of o (arithmetic_of name) (map matrix_in ks)) k → HasMadeKept (Some o) ks k
   made_kept name k e h = subst (λ n. Keeps n (answer_of o (arithmetic_of n) (map matrix_in ks)) k) e h
+
+  -- some columns of it
+  pub made_columns : (first end : ℕ) (name : SemiringName) (k : Kept) → name ≡ semiring_in ks → Keeps name (panel (answer_of o (arithmetic_of name) (map matrix_in ks)) first end) k → HasMadeColumns (Some o) first end ks k
+  made_columns first end name k e h = subst (λ n. Keeps n (panel (answer_of o (arithmetic_of n) (map matrix_in ks)) first end) k) e h
 
 -- no test has the number of a prune
 pub no_kept_operation : (o : Option Operation) (ks : List Kept) → o ≡ None → kept_faults o ks Test

@@ -17,3 +17,4 @@ pub mod KeptUpdates
 pub mod KeptDegrees
 pub mod KeptProducts
 pub mod KeptPanels
+pub mod KeptShares

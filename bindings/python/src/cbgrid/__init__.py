@@ -55,8 +55,8 @@ matrices of scipy, and a result that is a matrix is a `Matrix`. Functions of gra
 TypeError.
 
 **Threads.** Calls release the interpreter's lock. Any number of them may run at once, also on the same
-matrices, as long as no thread writes to those matrices. A call runs on the caller's thread alone, except for a
-product that is given more `threads`.
+matrices, as long as no thread writes to those matrices. A call runs on the caller's thread alone, unless
+`set_threads`, or the `threads` of a product, let it use more.
 """
 
 from __future__ import annotations
@@ -70,7 +70,7 @@ import numpy as np
 import scipy.sparse
 
 from . import _lists
-from ._matrix import SEMIRINGS, Matrix, kept, number_of, read_matrix
+from ._matrix import SEMIRINGS, Matrix, kept, number_of, read_matrix, thread_count
 from ._library import (
     LIMIT,
     MIXED,
@@ -101,6 +101,7 @@ __all__ = [
     "reduce",
     "relax",
     "relax_given",
+    "set_threads",
     "spmv",
     "text",
     "times",
@@ -191,13 +192,42 @@ def _check_pair(a: Any, b: Any) -> None:
         raise TypeError(f"a and b: values of one dtype are wanted, not {a.dtype} and {b.dtype}")
 
 
+def set_threads(count: int) -> None:
+    """Sets how many threads each call may use from now on, the caller's among them: at first 1, at most 256.
+
+    Products, sums, prunes and column sums use them, as far as each thread gets enough to do. They are started when a
+    call first needs them, and sleep between calls.
+
+    Parameters
+    ----------
+    count : int
+        1 or more.
+
+    Returns
+    -------
+    None
+
+    Raises
+    ------
+    ValueError
+        `count` is less than 1.
+
+    Examples
+    --------
+    >>> import cbgrid
+    >>> cbgrid.set_threads(4)
+    >>> cbgrid.set_threads(1)
+    """
+    library.cbgrid_threads(thread_count(count))
+
+
 def multiply(
     a: Sparse,
     b: Any,
     semiring: str | None = None,
     mask: Any = None,
     complement: bool = False,
-    threads: int = 1,
+    threads: int | None = None,
 ) -> Sparse:
     """Product of two matrices.
 
@@ -212,8 +242,9 @@ def multiply(
         value that is the semiring's zero isn't an entry.
     complement : bool
         Whether to keep only the entries at places where the mask has none.
-    threads : int
-        How many threads may compute the product, 1 or more; at most 256 are used. The result is the same.
+    threads : int, optional
+        How many threads may compute the product, 1 or more, instead of those of `set_threads`; at most 256 are used.
+        The result is the same.
 
     Returns
     -------

@@ -59,6 +59,14 @@ def whole_numbers(values: Any, name: str) -> np.ndarray:
     return values.view(_UINT64) if values.dtype.itemsize == 8 and values.dtype.isnative else values.astype(_UINT64)
 
 
+def thread_count(count: int) -> int:
+    """How many threads are wanted, as the library takes it."""
+    count = operator.index(count)
+    if count < 1:
+        raise ValueError(f"threads: 1 or more is wanted, not {count}")
+    return min(count, 2**32 - 1)
+
+
 def _sides(shape: Any) -> tuple[int, int]:
     nrows, ncols = (operator.index(it) for it in shape)
     if nrows < 0 or ncols < 0 or nrows > LIMIT or ncols > LIMIT:
@@ -859,15 +867,15 @@ class Matrix:
         complement: bool = False,
         transpose_left: bool = False,
         transpose_right: bool = False,
-        threads: int = 1,
+        threads: int | None = None,
     ) -> Matrix:
         """The product, at the places where the mask has an entry if there is one.
 
         With `complement`, the product at the places where the mask has no entry. With `transpose_left` or
         `transpose_right` this matrix or the other one is transposed first.
 
-        The product is computed by up to `threads` threads, 1 or more, of which at most 256 are used; the result is the
-        same.
+        The product is computed by up to `threads` threads, 1 or more, of which at most 256 are used, or by those of
+        `set_threads`; the result is the same.
 
         Parameters
         ----------
@@ -876,7 +884,7 @@ class Matrix:
             Whether to keep the places where the mask has no entry.
         transpose_left, transpose_right : bool
             Whether this matrix, or the other one, is transposed first.
-        threads : int
+        threads : int, optional
             How many threads may compute the product.
 
         Returns
@@ -895,15 +903,13 @@ class Matrix:
         >>> a.multiply(a, transpose_left=True).to_numpy().tolist()
         [[1, 2], [2, 13]]
         """
-        threads = operator.index(threads)
-        if threads < 1:
-            raise ValueError(f"threads: 1 or more is wanted, not {threads}")
+        count = 0 if threads is None else thread_count(threads)
         operand = self._wanted(other, "b")
         kept = None if mask is None else self._wanted(mask, "mask")
         if complement and kept is None:
             raise TypeError("complement: a mask is wanted")
         covered = None if kept is None else kept._at
-        how = How(covered, bool(complement), bool(transpose_left), bool(transpose_right), min(threads, 2**32 - 1))
+        how = How(covered, bool(complement), bool(transpose_left), bool(transpose_right), count)
         return self._made(library.cbgrid_matrix_multiply, operand._at, how)
 
     def _wanted(self, other: Any, name: str) -> Matrix:
