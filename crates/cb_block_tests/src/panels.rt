@@ -1,13 +1,17 @@
 //! Products in panels, beside the product by one thread.
-ghost use Rattle.std.specs.Prelude.{◌≡◌};
+ghost use Rattle.std.specs.Prelude.{◌≡◌, IfOk};
+ghost use Rattle.cb_operations.specs.OperationAnswers.{operand_count_of};
 
 use crate::calls::push;
 use crate::samples::{are_same, is_right_or_refused};
 use cb_dcsc::Block;
-use cb_matrix::{Entry, LIMIT};
-use cb_panels::{Panels, multiply, multiply_panels};
+use cb_layout::PanelledMatrix;
+use cb_matrix::{Entry, LIMIT, Test};
+use cb_operations::Operation;
+use cb_panels::{Panels, multiply, multiply_panels, operate};
 use cb_samples::{SampleFault, block, entry};
 use cb_semirings::PlusTimes;
+use cb_serial::{binary, ternary, unary};
 use std::alloc::{AllocError, Global};
 use std::thread::Threads;
 
@@ -68,10 +72,7 @@ fn factors_of(
 
 /// However small, at most this many.
 pub(crate) fn panels(most: u32) -> Panels {
-    Panels {
-        most,
-        least_products: 1,
-    }
+    Panels { most, least: 1 }
 }
 
 /// Whether the product in so many panels is the product by one thread.
@@ -182,5 +183,122 @@ fn a_product_has_as_many_panels_as_are_asked_for(rt: HostRuntime) {
 #[test]
 fn a_refused_product_in_panels_answers_memory(rt: HostRuntime) {
     let made = is_product(&rt, rt.alloc(), 3, &MANY, 7919);
+    assert!(&rt; is_right_or_refused(made));
+}
+
+/// A copy of a block, in one panel.
+fn panelled(
+    alloc: Global,
+    block: &Block<PlusTimes>,
+) -> Result<PanelledMatrix<PlusTimes>, AllocError>
+    ensures { IfOk result (λ m. m ≡ block.now) }
+{
+    Ok(PanelledMatrix::from_block(alloc, block.try_clone()?))
+}
+
+/// Whether an operation on one matrix by so many threads is that by one thread.
+fn is_same_of_one<R: Threads + Sync>(
+    rt: &R,
+    alloc: Global,
+    most: u32,
+    operation: Operation,
+    a: &Block<PlusTimes>,
+) -> Result<bool, AllocError>
+    requires { operand_count_of operation ≡ 1 }
+{
+    if operation.shape_of(&[a.shape()]).is_none() {
+        return Ok(false);
+    }
+    let wanted = unary(alloc, operation, a)?;
+    let a = panelled(alloc, a)?;
+    let found = operate(rt, alloc, panels(most), operation, &[&a])?;
+    Ok(are_same(&found.into_block()?, &wanted))
+}
+
+/// The same of two matrices.
+fn is_same_of_two<R: Threads + Sync>(
+    rt: &R,
+    alloc: Global,
+    most: u32,
+    operation: Operation,
+    a: &Block<PlusTimes>,
+    b: &Block<PlusTimes>,
+) -> Result<bool, AllocError>
+    requires { operand_count_of operation ≡ 2 }
+{
+    if operation.shape_of(&[a.shape(), b.shape()]).is_none() {
+        return Ok(false);
+    }
+    let wanted = binary(alloc, operation, a, b)?;
+    let (a, b) = (panelled(alloc, a)?, panelled(alloc, b)?);
+    let found = operate(rt, alloc, panels(most), operation, &[&a, &b])?;
+    Ok(are_same(&found.into_block()?, &wanted))
+}
+
+/// The same of a product under a mask.
+fn is_same_masked<R: Threads + Sync>(
+    rt: &R,
+    alloc: Global,
+    most: u32,
+    a: &Block<PlusTimes>,
+    b: &Block<PlusTimes>,
+    mask: &Block<PlusTimes>,
+) -> Result<bool, AllocError> {
+    let operation = Operation::MultiplyMasked;
+    let shapes = [a.shape(), b.shape(), mask.shape()];
+    if operation.shape_of(&shapes).is_none() {
+        return Ok(false);
+    }
+    let wanted = ternary(alloc, operation, a, b, mask)?;
+    let (left, right, under) = (
+        panelled(alloc, a)?,
+        panelled(alloc, b)?,
+        panelled(alloc, mask)?,
+    );
+    if operation
+        .shape_of(&[left.shape(), right.shape(), under.shape()])
+        .is_none()
+    {
+        return Ok(false);
+    }
+    let found = operate(rt, alloc, panels(most), operation, &[&left, &right, &under])?;
+    Ok(are_same(&found.into_block()?, &wanted))
+}
+
+/// Whether all are, of two square matrices and a mask of few entries.
+fn are_operations<R: Threads + Sync>(
+    rt: &R,
+    alloc: Global,
+    most: u32,
+    seed: u32,
+) -> Result<bool, SampleFault> {
+    let a = block(alloc, 30, 30, &scattered(alloc, 30, 24, 3, seed)?)?;
+    let b = block(alloc, 30, 30, &scattered(alloc, 20, 30, 2, !seed)?)?;
+    let mask = block(alloc, 30, 30, &scattered(alloc, 30, 30, 7, seed ^ 5)?)?;
+    Ok(
+        is_same_of_one(rt, alloc, most, Operation::Prune(Test::Below(3)), &a)?
+            && is_same_of_one(rt, alloc, most, Operation::ColumnSums, &a)?
+            && is_same_of_one(rt, alloc, most, Operation::Transpose, &a)?
+            && is_same_of_two(rt, alloc, most, Operation::Add, &a, &b)?
+            && is_same_of_two(rt, alloc, most, Operation::Times, &a, &b)?
+            && is_same_of_two(rt, alloc, most, Operation::Multiply, &a, &b)?
+            && is_same_masked(rt, alloc, most, &a, &b, &mask)?,
+    )
+}
+
+#[test]
+fn operations_by_threads_are_the_same(rt: HostRuntime) {
+    for most in [0, 1, 2, 3, 5, 64] {
+        assert!(&rt;
+            are_operations(&rt, rt.alloc(), most, 7919) == Ok(true),
+            "{most} threads"
+        );
+    }
+}
+
+/// Passes whichever single allocation is refused (`rt try --test --fail-alloc N`, for each N in turn).
+#[test]
+fn refused_operations_by_threads_answer_memory(rt: HostRuntime) {
+    let made = are_operations(&rt, rt.alloc(), 3, 7919);
     assert!(&rt; is_right_or_refused(made));
 }

@@ -24,7 +24,7 @@ pub struct Job {
     /// The side of the grid of the ranks that compute it, 1 to 6.
     pub side: u32,
     pub engine: EngineName,
-    /// How many threads may read the files, compute a product without ranks, and write the answer.
+    /// How many threads may read the files, compute without ranks, and write the answer.
     pub threads: u32,
     /// The names of the files, in the order in which they are read.
     pub files: Vec<String>,

@@ -1,2 +1,1 @@
 mod SourceLemmas
-mod GraphTaskEnds

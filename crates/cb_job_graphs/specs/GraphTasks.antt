@@ -9,6 +9,8 @@ use Rattle.cb_command_line.specs.declared.tasks.GraphTask.{GraphTask}
 use Rattle.cb_command_line.specs.declared.tasks.GraphTask.TheVariants.{Levels, Distances, LevelsFrom, DistancesFrom, LevelsGiven, DistancesGiven}
 use Rattle.cb_command_line.specs.declared.tasks.GraphTask.TheVariants.{Parents, Components, Triangles, TriangleCounts, RowDegrees, ColumnDegrees}
 use Rattle.cb_job_ends.specs.WriteEnds.{IsEndOn}
+use Rattle.cb_job_output.specs.declared.answers.Answer.{Answer}
+use Rattle.cb_job_output.specs.Answers.{IsAnsweredOn}
 use Rattle.cb_job_ends.specs.declared.faults.JobFault.{JobFault}
 use Rattle.cb_job_graphs.specs.ListedSources.{IsWalksAnswer, IsWalksFault}
 use Rattle.cb_job_graphs.specs.InitialValues.{IsGivenAnswer, IsGivenFault}
@@ -44,6 +46,10 @@ IsGraphFault TriangleCounts = IsSquareFault
 IsGraphFault RowDegrees = IsDegreesFault
 IsGraphFault ColumnDegrees = IsDegreesFault
 
--- how a call ends that writes the answer of a task
+-- how a call ends that computes the answer of a task
+abbrev pub IsGraphAnswered : {S : Type 0} → GraphTask → List (List ℕ) → Result (Answer S) JobFault → Type 0
+IsGraphAnswered task = IsAnsweredOn (IsGraphAnswer task) (IsGraphFault task) min_plus
+
+-- how a call ends that writes it
 abbrev pub IsGraphEnd : {T : Type 0} → GraphTask → List (List ℕ) → Option (List ℕ) → Option (List ℕ) → Bool → Result T JobFault → Type 0
 IsGraphEnd task = IsEndOn (IsGraphAnswer task) (IsGraphFault task)

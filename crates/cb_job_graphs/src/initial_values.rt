@@ -1,17 +1,18 @@
 //! Levels and distances from initial values of some vertices: a column in a text of its own has them. The caller's
 //! thread computes them.
-ghost use Rattle.std.specs.Prelude.{◌≡◌, ◌≢◌, vec_len, false, IfOk, IfErr, OnOk};
-ghost use Rattle.cb_job_graphs.specs.InitialValues.{IsGivenFault, IsGivenOf, IsGraphWithNumbers, IsNumbersRefusal, IsPlaceForEach};
-ghost use Rattle.cb_job_graphs.specs.GraphEnds.{IsGivenEnd};
+ghost use Rattle.std.specs.Prelude.{◌≡◌, ◌≢◌, vec_len, IfOk, IfErr, OnOk};
+ghost use Rattle.cb_job_graphs.specs.InitialValues.{IsGivenAnswer, IsGivenFault, IsGraphWithNumbers, IsNumbersRefusal, IsPlaceForEach};
+ghost use Rattle.cb_job_output.specs.Answers.{IsAnsweredOn};
+ghost use Rattle.cb_semirings.specs.Tables.{min_plus};
 
-use crate::column_output::put_column;
 use cb_bases::Based;
 use cb_dcsc::Block;
 use cb_job_ends::faults::JobFault;
-use cb_job_ends::sinks::Sink;
 use cb_job_ends::texts::Text;
 use cb_job_inputs::inputs::read_pair;
-use cb_matrix::{Matrix, Shape};
+use cb_job_output::answers::Answer;
+use cb_market_pages::vertex_text;
+use cb_matrix::Shape;
 use cb_operations::Refusal;
 use cb_searches::{Walks, column_shape};
 use cb_semirings::MinPlus;
@@ -49,37 +50,19 @@ fn graph_with_numbers<S: Based + Send + Sync, R: Threads + Sync>(
     Ok((graph, given))
 }
 
-/// Reads a graph and initial values, and computes the numbers of the vertices from these.
-fn column_given<S: Walks + Based + Send + Sync, R: Threads + Sync>(
+/// Finds the number of each vertex that can be reached from initial values, except infinite ones: levels over or-and, distances
+/// over min-plus.
+pub fn numbers_given_answer<S: Walks + Based + Send + Sync, R: Threads + Sync>(
     rt: &R,
     alloc: Global,
     threads: u32,
     texts: Vec<Text>,
-) -> Result<Matrix<MinPlus>, JobFault>
+) -> Result<Answer<MinPlus>, JobFault>
     requires { vec_len texts ≡ 2 }
-    ensures ok { IfOk result (IsGivenOf S.are_given S.arithmetic texts.items) }
-    ensures column { IfOk result (λ column. column.shape.cols ≡ 1) }
-    ensures fault { IfErr result (IsGivenFault S.arithmetic texts.items) }
-    ensures unwritten { IfErr result (λ f. f ≢ JobFault.Output) }
+    ensures { IsAnsweredOn (IsGivenAnswer S.are_given S.arithmetic) (IsGivenFault S.arithmetic) min_plus texts.items result }
 {
     let (graph, given) = graph_with_numbers::<S, R>(rt, alloc, threads, texts)?;
     let column = S::numbers_given(alloc, &graph, &given)?;
-    Ok(column)
-}
-
-/// Writes the number of each vertex that can be reached from initial values, except infinite ones: levels over or-and,
-/// distances over min-plus.
-pub fn put_numbers_given<S: Walks + Based + Send + Sync, R: Threads + Sync, K: Sink>(
-    rt: &R,
-    alloc: Global,
-    threads: u32,
-    texts: Vec<Text>,
-    out: &mut K,
-) -> Result<(), JobFault>
-    requires texts { vec_len texts ≡ 2 }
-    requires works { K.has_failed out.old ≡ false }
-    ensures { IsGivenEnd S.are_given S.arithmetic texts.items (K.written out.old) (K.written out.new) (K.has_failed out.new) result }
-{
-    let column = column_given::<S, R>(rt, alloc, threads, texts)?;
-    put_column(alloc, &column, out)
+    drop(graph);
+    Ok(Answer::Lines(vertex_text(alloc, &column)?))
 }

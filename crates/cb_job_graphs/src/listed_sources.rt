@@ -1,18 +1,18 @@
 //! Levels and distances from several sources, which are listed in a text. The caller's thread computes them.
-ghost use Rattle.std.specs.Prelude.{◌≡◌, ◌≢◌, ◌<◌, ◌≤◌, vec_len, length, All, false, IfOk, IfErr, OnOk};
+ghost use Rattle.std.specs.Prelude.{◌≡◌, ◌≢◌, ◌<◌, ◌≤◌, vec_len, length, All, IfOk, IfErr, OnOk};
 ghost use Rattle.cb_matrix.specs.declared.TheConstants.{LIMIT};
 ghost use Rattle.cb_job_inputs.specs.Lists.{numbers_in};
-ghost use Rattle.cb_job_graphs.specs.ListedSources.{AreSources, AreSourcesRefused, IsGraphWithSources, IsSourcesFault, IsWalksFault, IsWalksOf};
-ghost use Rattle.cb_job_graphs.specs.GraphEnds.{IsWalksEnd};
+ghost use Rattle.cb_job_graphs.specs.ListedSources.{AreSources, AreSourcesRefused, IsGraphWithSources, IsSourcesFault, IsWalksAnswer, IsWalksFault, IsWalksOf};
+ghost use Rattle.cb_job_output.specs.Answers.{IsAnsweredOn};
+ghost use Rattle.cb_semirings.specs.Tables.{min_plus};
 
 use cb_bases::Based;
 use cb_dcsc::Block;
 use cb_job_ends::faults::JobFault;
-use cb_job_ends::sinks::Sink;
 use cb_job_ends::texts::Text;
 use cb_job_inputs::inputs::read_pair;
 use cb_job_inputs::lists::{is_full, listed};
-use cb_job_output::output::put_matrix;
+use cb_job_output::answers::Answer;
 use cb_layout::PanelledMatrix;
 use cb_matrix::{Matrix, Shape};
 use cb_operations::{Refusal, SelectionRefusal};
@@ -97,18 +97,16 @@ fn columns_from<S: Walks + Based + Send + Sync, R: Threads + Sync>(
     Ok(answer)
 }
 
-/// Writes the matrix of the numbers from the listed sources, a column for each: levels over or-and, distances over min-plus.
-pub fn put_numbers_from<S: Walks + Based + Send + Sync, R: Threads + Sync, K: Sink>(
+/// Finds the numbers from the listed sources, in a column for each: levels over or-and, distances over min-plus.
+pub fn numbers_from_answer<S: Walks + Based + Send + Sync, R: Threads + Sync>(
     rt: &R,
     alloc: Global,
     threads: u32,
     texts: Vec<Text>,
-    out: &mut K,
-) -> Result<(), JobFault>
-    requires texts { vec_len texts ≡ 2 }
-    requires works { K.has_failed out.old ≡ false }
-    ensures { IsWalksEnd S.are_from S.arithmetic texts.items (K.written out.old) (K.written out.new) (K.has_failed out.new) result }
+) -> Result<Answer<MinPlus>, JobFault>
+    requires { vec_len texts ≡ 2 }
+    ensures { IsAnsweredOn (IsWalksAnswer S.are_from S.arithmetic) (IsWalksFault S.arithmetic) min_plus texts.items result }
 {
-    let answer = columns_from::<S, R>(rt, alloc, threads, texts)?;
-    put_matrix(rt, alloc, threads, answer, out)
+    let columns = columns_from::<S, R>(rt, alloc, threads, texts)?;
+    Ok(Answer::Matrix(columns))
 }

@@ -1,33 +1,34 @@
 //! Levels or distances of the vertices of a graph from a source, by the caller's thread.
-ghost use Rattle.std.specs.Prelude.{◌≡◌, vec_len, false};
-ghost use Rattle.cb_job_graphs.specs.GraphEnds.{IsWalkEnd};
+ghost use Rattle.std.specs.Prelude.{◌≡◌, vec_len};
+ghost use Rattle.cb_semirings.specs.Tables.{min_plus};
+ghost use Rattle.cb_job_graphs.specs.GraphAnswers.{IsWalkAnswer, IsWalkFault};
+ghost use Rattle.cb_job_output.specs.Answers.{IsAnsweredOn};
 
-use crate::column_output::put_column;
 use crate::graph_inputs::graph_with_source;
 use cb_bases::Based;
 use cb_job_ends::faults::JobFault;
-use cb_job_ends::sinks::Sink;
 use cb_job_ends::texts::Text;
+use cb_job_output::answers::Answer;
+use cb_market_pages::vertex_text;
 use cb_searches::Walks;
+use cb_semirings::MinPlus;
 use std::alloc::Global;
 use std::thread::Threads;
 
-/// Writes the number of each vertex that can be reached from a source, except infinite ones: levels over or-and, distances
-/// over min-plus.
-pub fn put_numbers<S: Walks + Based + Send + Sync, R: Threads + Sync, K: Sink>(
+/// Finds the number of each vertex that can be reached from a source, except infinite ones: levels over or-and, distances over
+/// min-plus.
+pub fn numbers_answer<S: Walks + Based + Send + Sync, R: Threads + Sync>(
     rt: &R,
     alloc: Global,
     threads: u32,
     source: u32,
     texts: Vec<Text>,
-    out: &mut K,
-) -> Result<(), JobFault>
-    requires texts { vec_len texts ≡ 1 }
-    requires works { K.has_failed out.old ≡ false }
-    ensures { IsWalkEnd S.are S.arithmetic source texts.items (K.written out.old) (K.written out.new) (K.has_failed out.new) result }
+) -> Result<Answer<MinPlus>, JobFault>
+    requires { vec_len texts ≡ 1 }
+    ensures { IsAnsweredOn (IsWalkAnswer S.are S.arithmetic source) (IsWalkFault S.arithmetic source) min_plus texts.items result }
 {
     let graph = graph_with_source::<S, R>(rt, alloc, threads, source, texts)?;
     let column = S::numbers(alloc, &graph, source)?;
     drop(graph);
-    put_column(alloc, &column, out)
+    Ok(Answer::Lines(vertex_text(alloc, &column)?))
 }

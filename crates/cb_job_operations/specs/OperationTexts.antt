@@ -6,12 +6,12 @@ use Rattle.cb_market_pages.specs.Text.{text_of}
 use Rattle.cb_operations.specs.declared.operations.Operation.{Operation}
 use Rattle.cb_operations.specs.declared.refusals.Refusal.TheVariants as refusal_is
 use Rattle.cb_operations.specs.OperationAnswers.{Agree, answer_of, shapes_in}
-use Rattle.cb_serial.specs.declared.checked.SerialFault.{SerialFault}
-use Rattle.cb_serial.specs.declared.checked.SerialFault.TheVariants as serial_is
 use Rattle.cb_job_ends.specs.declared.faults.JobFault.{JobFault}
 use Rattle.cb_job_ends.specs.declared.faults.JobFault.TheVariants.{Read, Refused, Unselected, Ranks, Memory, Output, Absent}
 use Rattle.cb_job_inputs.specs.Inputs.{AreMatrices, IsReadFault}
 use Rattle.cb_job_ends.specs.WriteEnds.{IsEndOn}
+use Rattle.cb_job_output.specs.declared.answers.Answer.{Answer}
+use Rattle.cb_job_output.specs.Answers.{IsAnsweredOn}
 
 -- a matrix is what an operation over a semiring makes of the matrices that the texts read as
 abbrev pub IsResultOf : Operation → Arithmetic → List (List ℕ) → Sparse → Type 0
@@ -39,16 +39,15 @@ IsFaultOver operation s texts Memory = AreOperands operation s texts
 IsFaultOver operation s texts Output = AreOperands operation s texts
 
 -- why an operation on these matrices has no answer: their shapes don't agree, or they do and memory was refused
-abbrev pub IsBlocksFault : Operation → List Sparse → JobFault → Type 0
-IsBlocksFault operation ms (Refused refusal_is.Shapes) = ¬ Agree operation (shapes_in ms)
-IsBlocksFault operation ms Memory = Agree operation (shapes_in ms)
-IsBlocksFault operation ms _ = ⊥
-
--- the fault of a job for a fault of an operation on blocks
-abbrev pub job_fault_of : SerialFault → JobFault
-job_fault_of (serial_is.Refused refusal) = Refused refusal
-job_fault_of serial_is.Memory = Memory
+abbrev pub IsMatricesFault : Operation → List Sparse → JobFault → Type 0
+IsMatricesFault operation ms (Refused refusal_is.Shapes) = ¬ Agree operation (shapes_in ms)
+IsMatricesFault operation ms Memory = Agree operation (shapes_in ms)
+IsMatricesFault operation ms _ = ⊥
 
 -- how a call ends that writes the answer of an operation over a semiring
 abbrev pub IsEndOver : {T : Type 0} → Operation → Arithmetic → List (List ℕ) → Option (List ℕ) → Option (List ℕ) → Bool → Result T JobFault → Type 0
 IsEndOver operation s = IsEndOn (IsAnswerOver operation s) (IsFaultOver operation s)
+
+-- how a call ends that computes it
+abbrev pub IsAnsweredOver : {S : Type 0} → Operation → Arithmetic → List (List ℕ) → Result (Answer S) JobFault → Type 0
+IsAnsweredOver operation s = IsAnsweredOn (IsAnswerOver operation s) (IsFaultOver operation s) s

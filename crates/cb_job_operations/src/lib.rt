@@ -1,8 +1,7 @@
 //! Operations on the matrices of texts, over any semiring.
 //!
-//! [`put_operation`](operation_answers::put_operation) reads the texts of the operands into blocks, dropping each once it is
-//! read, computes the result and writes its text to a sink. Threads that share whole blocks read, make a product and write;
-//! the caller's thread does everything else.
+//! [`operation_answer`](operation_answers::operation_answer) reads the texts of the operands, dropping each once it is read, and
+//! computes the result. Threads that share whole matrices do both.
 #![tactic(auto)]
 
 mod alone;

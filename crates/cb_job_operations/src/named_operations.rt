@@ -5,17 +5,36 @@ ghost use Rattle.cb_operations.specs.OperationAnswers.{operand_count_of};
 ghost use Rattle.cb_command_line.specs.Jobs.{is_distributive};
 ghost use Rattle.cb_job_operations.specs.OperationTexts.{IsEndOver};
 
-use crate::operation_answers::put_operation;
+use crate::operation_answers::operation_answer;
+use cb_bases::Based;
 use cb_job_ends::faults::JobFault;
 use cb_job_ends::sinks::Sink;
 use cb_job_ends::texts::Text;
+use cb_job_output::answers::put_answer;
 use cb_operations::Operation;
 use cb_semirings::{MaxMin, MinPlus, OrAnd, PlusTimes, SemiringName};
 use std::alloc::Global;
 use std::thread::Threads;
 
-/// Writes the same as [`put_operation`], over the distributive semiring of a name. A program that needs no others is compiled
-/// in less than half the time.
+/// Writes the answer of an operation over a semiring.
+fn put_operation<S: Based + Send + Sync, R: Threads + Sync, K: Sink>(
+    rt: &R,
+    alloc: Global,
+    threads: u32,
+    operation: Operation,
+    texts: Vec<Text>,
+    out: &mut K,
+) -> Result<(), JobFault>
+    requires texts { vec_len texts ≡ operand_count_of operation }
+    requires works { K.has_failed out.old ≡ false }
+    ensures { IsEndOver operation S.arithmetic texts.items (K.written out.old) (K.written out.new) (K.has_failed out.new) result }
+{
+    let answer = operation_answer::<S, R>(rt, alloc, threads, operation, texts)?;
+    put_answer(rt, alloc, threads, answer, out)
+}
+
+/// Writes the answer of an operation, over the distributive semiring of a name. A program that needs no others is compiled in
+/// less than half the time.
 pub fn execute_distributive_operation<R: Threads + Sync, K: Sink>(
     rt: &R,
     alloc: Global,

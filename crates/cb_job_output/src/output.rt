@@ -254,6 +254,14 @@ fn put_end(put: Result<(), PutFault>) -> Result<(), JobFault>
     }
 }
 
+/// Writes a text that is made already. At `Output` a beginning of it has been written.
+pub(crate) fn put_bytes<K: Sink>(text: &[u8], out: &mut K) -> Result<(), JobFault>
+    requires { K.has_failed out.old ≡ false }
+    ensures { IsTextEnd text.now (K.written out.old) (K.written out.new) (K.has_failed out.new) result }
+{
+    put_end(put_all(out, text))
+}
+
 /// Takes the memory to write a text in rounds of this form.
 fn begin_rounds<'a, S: Semiring>(
     alloc: Global,
@@ -345,7 +353,7 @@ pub fn put_text_and_lines<S: Semiring + Send + Sync, R: Threads + Sync, K: Sink>
 }
 
 /// Writes the text of a matrix, with the same faults, and then frees the matrix.
-pub fn put_matrix<S: Based + Send + Sync, R: Threads + Sync, K: Sink>(
+pub(crate) fn put_matrix<S: Based + Send + Sync, R: Threads + Sync, K: Sink>(
     rt: &R,
     alloc: Global,
     threads: u32,
@@ -377,7 +385,7 @@ fn put_panels<S: Semiring + Send + Sync, R: Threads + Sync, K: Sink>(
 }
 
 /// Writes the text of a matrix over a grid and some lines after it, with the same faults, and then frees the matrix.
-pub fn put_blocks_and_lines<S: Based + Send + Sync, R: Threads + Sync, K: Sink>(
+pub(crate) fn put_blocks_and_lines<S: Based + Send + Sync, R: Threads + Sync, K: Sink>(
     rt: &R,
     alloc: Global,
     threads: u32,

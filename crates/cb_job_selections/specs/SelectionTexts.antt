@@ -15,6 +15,8 @@ use Rattle.cb_job_ends.specs.declared.faults.JobFault.{JobFault}
 use Rattle.cb_job_ends.specs.declared.faults.JobFault.TheVariants.{Read, Refused, Unselected, Ranks, Memory, Output, Absent}
 use Rattle.cb_job_inputs.specs.Inputs.{AreMatrices, IsReadFault}
 use Rattle.cb_job_ends.specs.WriteEnds.{IsEndOn}
+use Rattle.cb_job_output.specs.declared.answers.Answer.{Answer}
+use Rattle.cb_job_output.specs.Answers.{IsAnsweredOn}
 
 -- ---- of a selection
 -- a matrix is the selection from the matrices that the texts read as
@@ -66,3 +68,7 @@ IsSelectionFault (task_is.Extract lists) s = IsExtractFault lists s
 -- how a call ends that writes the answer of such a task over a semiring
 abbrev pub IsSelectionEnd : {T : Type 0} → SelectionTask → Arithmetic → List (List ℕ) → Option (List ℕ) → Option (List ℕ) → Bool → Result T JobFault → Type 0
 IsSelectionEnd task s = IsEndOn (IsSelectionAnswer task s) (IsSelectionFault task s)
+
+-- how a call ends that computes its answer
+abbrev pub IsSelectionAnswered : {S : Type 0} → SelectionTask → Arithmetic → List (List ℕ) → Result (Answer S) JobFault → Type 0
+IsSelectionAnswered task s = IsAnsweredOn (IsSelectionAnswer task s) (IsSelectionFault task s) s

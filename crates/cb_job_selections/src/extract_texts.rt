@@ -1,12 +1,12 @@
 //! Rows and columns of the matrix of a text by their numbers, which are listed in other texts. The caller's thread makes them.
-ghost use Rattle.std.specs.Prelude.{◌≡◌, ◌≢◌, ◌+◌, vec_len, false, IfOk, IfErr, OnOk};
+ghost use Rattle.std.specs.Prelude.{◌≡◌, ◌≢◌, ◌+◌, vec_len, IfOk, IfErr, OnOk};
 ghost use Rattle.cb_selections.specs.Extracted.{rows_by, columns_by};
 ghost use Rattle.cb_command_line.specs.Jobs.{list_count_of};
 ghost use Rattle.cb_command_line.specs.declared.lists.Lists.TheVariants as lists_are;
 ghost use Rattle.cb_job_inputs.specs.Lists.{IsList, numbers_in};
 ghost use Rattle.cb_operations.specs.declared.refusals.SelectionRefusal.TheVariants.{NoRow, NoColumn};
 ghost use Rattle.cb_job_selections.specs.Extracts.{AreLists, AreListsFault, AreListsRefused, IsExtractFault, IsExtractOf, IsPartOf, IsListFault};
-ghost use Rattle.cb_job_selections.specs.SelectionTexts.{IsSelectionEnd};
+ghost use Rattle.cb_job_selections.specs.SelectionTexts.{IsSelectionAnswered};
 ghost use Rattle.cb_command_line.specs.declared.tasks.SelectionTask.TheVariants as task_is;
 
 use crate::list_checks::{check_list, numbers_of};
@@ -15,11 +15,10 @@ use cb_bases::Based;
 use cb_command_line::Lists;
 use cb_dcsc::Block;
 use cb_job_ends::faults::JobFault;
-use cb_job_ends::sinks::Sink;
 use cb_job_ends::texts::Text;
 use cb_job_inputs::inputs::read_pair;
 use cb_job_inputs::lists::listed;
-use cb_job_output::output::put_matrix;
+use cb_job_output::answers::Answer;
 use cb_layout::PanelledMatrix;
 use cb_matrix::Shape;
 use cb_operations::SelectionRefusal;
@@ -161,19 +160,17 @@ fn extract_matrix<S: Based + Send + Sync, R: Threads + Sync>(
     }
 }
 
-/// Writes the listed rows and columns of the matrix of a text over a semiring.
-pub fn put_extract<S: Based + Send + Sync, R: Threads + Sync, K: Sink>(
+/// Reads a matrix over a semiring and lists, and makes the rows and columns that are listed: the answer whose text is theirs.
+pub fn extract_answer<S: Based + Send + Sync, R: Threads + Sync>(
     rt: &R,
     alloc: Global,
     threads: u32,
     lists: Lists,
     texts: Vec<Text>,
-    out: &mut K,
-) -> Result<(), JobFault>
-    requires texts { vec_len texts ≡ 1 + list_count_of lists }
-    requires works { K.has_failed out.old ≡ false }
-    ensures { IsSelectionEnd (task_is.Extract lists) S.arithmetic texts.items (K.written out.old) (K.written out.new) (K.has_failed out.new) result }
+) -> Result<Answer<S>, JobFault>
+    requires { vec_len texts ≡ 1 + list_count_of lists }
+    ensures { IsSelectionAnswered (task_is.Extract lists) S.arithmetic texts.items result }
 {
-    let answer = extract_matrix::<S, R>(rt, alloc, threads, lists, texts)?;
-    put_matrix(rt, alloc, threads, answer, out)
+    let matrix = extract_matrix::<S, R>(rt, alloc, threads, lists, texts)?;
+    Ok(Answer::Matrix(matrix))
 }

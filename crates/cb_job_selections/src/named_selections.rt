@@ -2,27 +2,45 @@
 ghost use Rattle.std.specs.Prelude.{◌≡◌, vec_len, true, false};
 ghost use Rattle.cb_semirings.specs.Names.{arithmetic_of};
 ghost use Rattle.cb_command_line.specs.Jobs.{is_distributive, selection_file_count_of};
-ghost use Rattle.cb_job_selections.specs.SelectionTexts.{IsSelectionEnd};
+ghost use Rattle.cb_job_selections.specs.SelectionTexts.{IsSelectionAnswered, IsSelectionEnd};
 
-use crate::extract_texts::put_extract;
-use crate::selection_texts::put_selected;
+use crate::extract_texts::extract_answer;
+use crate::selection_texts::selected_answer;
 use cb_bases::Based;
 use cb_command_line::SelectionTask;
 use cb_job_ends::faults::JobFault;
 use cb_job_ends::sinks::Sink;
 use cb_job_ends::texts::Text;
+use cb_job_output::answers::{Answer, put_answer};
 use cb_semirings::{MaxMin, MinPlus, OrAnd, PlusTimes, SemiringName};
 use std::alloc::Global;
 use std::thread::Threads;
 
-/// Writes a selection from the matrices of texts over a semiring. At most `threads` threads read and write; the caller's thread
-/// does everything else.
+/// Reads the texts of a selection over a semiring, and makes it from their matrices: the answer whose text is its own. At most
+/// `threads` threads read; the caller's thread does everything else.
 ///
-/// All memory is taken before the first byte is written: at a fault other than `Output` nothing has been written. At
-/// `Output` the sink has failed, which it has in no other case, and a beginning of the text has been written.
-///
-/// The first fault in this order is returned: a text that isn't a matrix; a selection that can't be made; want of memory;
-/// `Output`. Each text is dropped once it is read, so that its memory is free for the computation.
+/// The first fault in this order is returned: a text that isn't a matrix; a selection that can't be made; want of memory. Each
+/// text is dropped once it is read, so that its memory is free for the computation.
+pub fn selection_answer<S: Based + Send + Sync, R: Threads + Sync>(
+    rt: &R,
+    alloc: Global,
+    threads: u32,
+    task: SelectionTask,
+    texts: Vec<Text>,
+) -> Result<Answer<S>, JobFault>
+    requires { vec_len texts ≡ selection_file_count_of task }
+    ensures { IsSelectionAnswered task S.arithmetic texts.items result }
+{
+    match task {
+        SelectionTask::Selected(selection) => {
+            selected_answer::<S, R>(rt, alloc, threads, selection, texts)
+        }
+        SelectionTask::Extract(lists) => extract_answer::<S, R>(rt, alloc, threads, lists, texts),
+    }
+}
+
+/// Writes the text of a selection from the matrices of texts over a semiring, with the faults of [`selection_answer`] and of
+/// [`put_answer`].
 pub fn put_selection<S: Based + Send + Sync, R: Threads + Sync, K: Sink>(
     rt: &R,
     alloc: Global,
@@ -35,14 +53,8 @@ pub fn put_selection<S: Based + Send + Sync, R: Threads + Sync, K: Sink>(
     requires works { K.has_failed out.old ≡ false }
     ensures { IsSelectionEnd task S.arithmetic texts.items (K.written out.old) (K.written out.new) (K.has_failed out.new) result }
 {
-    match task {
-        SelectionTask::Selected(selection) => {
-            put_selected::<S, R, K>(rt, alloc, threads, selection, texts, out)
-        }
-        SelectionTask::Extract(lists) => {
-            put_extract::<S, R, K>(rt, alloc, threads, lists, texts, out)
-        }
-    }
+    let answer = selection_answer::<S, R>(rt, alloc, threads, task, texts)?;
+    put_answer(rt, alloc, threads, answer, out)
 }
 
 /// Writes the same as [`put_selection`], over the distributive semiring of a name. A program that needs no others is compiled

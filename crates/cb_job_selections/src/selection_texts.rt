@@ -1,19 +1,18 @@
 //! Selections from the matrices of texts, which the caller's thread makes.
-ghost use Rattle.std.specs.Prelude.{◌≡◌, ◌≢◌, length, vec_len, false, IfOk, IfErr};
+ghost use Rattle.std.specs.Prelude.{◌≡◌, ◌≢◌, length, vec_len, IfOk, IfErr};
 ghost use Rattle.cb_job_inputs.specs.Inputs.{AreMatrices, IsReadFault};
 ghost use Rattle.cb_operations.specs.OperationAnswers.{shapes_in};
 ghost use Rattle.cb_operations.specs.Operands.{lent_in, list_of};
 ghost use Rattle.cb_operations.specs.SelectionAnswers.{operand_count_of, answer_of, Suits};
-ghost use Rattle.cb_job_selections.specs.SelectionTexts.{IsBlocksFault, IsSelectedFault, IsSelectedOf, IsSelectionEnd, job_fault_of};
+ghost use Rattle.cb_job_selections.specs.SelectionTexts.{IsBlocksFault, IsSelectedFault, IsSelectedOf, IsSelectionAnswered, job_fault_of};
 ghost use Rattle.cb_command_line.specs.declared.tasks.SelectionTask.TheVariants as task_is;
 
 use cb_bases::Based;
 use cb_dcsc::Block;
 use cb_job_ends::faults::JobFault;
-use cb_job_ends::sinks::Sink;
 use cb_job_ends::texts::Text;
 use cb_job_inputs::inputs::{read_one, read_two};
-use cb_job_output::output::put_matrix;
+use cb_job_output::answers::Answer;
 use cb_layout::{Grid, PanelledMatrix};
 use cb_operations::{Operands, Selection};
 use cb_selections::{SelectionFault, compute};
@@ -105,19 +104,17 @@ fn selected_matrix<S: Based + Send + Sync, R: Threads + Sync>(
     selected_from(alloc, selection, &operands)
 }
 
-/// Writes the selection from the matrices of texts over a semiring.
-pub fn put_selected<S: Based + Send + Sync, R: Threads + Sync, K: Sink>(
+/// Reads the texts of a selection over a semiring, and makes it from their matrices: the answer whose text is its own.
+pub fn selected_answer<S: Based + Send + Sync, R: Threads + Sync>(
     rt: &R,
     alloc: Global,
     threads: u32,
     selection: Selection,
     texts: Vec<Text>,
-    out: &mut K,
-) -> Result<(), JobFault>
-    requires texts { vec_len texts ≡ operand_count_of selection }
-    requires works { K.has_failed out.old ≡ false }
-    ensures { IsSelectionEnd (task_is.Selected selection) S.arithmetic texts.items (K.written out.old) (K.written out.new) (K.has_failed out.new) result }
+) -> Result<Answer<S>, JobFault>
+    requires { vec_len texts ≡ operand_count_of selection }
+    ensures { IsSelectionAnswered (task_is.Selected selection) S.arithmetic texts.items result }
 {
-    let answer = selected_matrix::<S, R>(rt, alloc, threads, selection, texts)?;
-    put_matrix(rt, alloc, threads, answer, out)
+    let matrix = selected_matrix::<S, R>(rt, alloc, threads, selection, texts)?;
+    Ok(Answer::Matrix(matrix))
 }

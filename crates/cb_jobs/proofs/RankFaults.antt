@@ -1,8 +1,8 @@
 -- Faults of ranks as faults of jobs.
-use Rattle.std.proofs.Common.{◌≡◌, ◌∙◌, ℕ, List, Bool, false, inl, inr, refl, sym, subst}
-use Rattle.std.specs.Prelude.{Option, Some, None, Result, Err}
-use Rattle.std.specs.Io.KnownBytes.{Keeps}
+use Rattle.std.proofs.Common.{◌≡◌, ◌∙◌, ℕ, List, inl, inr, refl, sym, subst}
+use Rattle.std.specs.Prelude.{Result, Err}
 use Rattle.cb_semirings.specs.Arithmetic.{Arithmetic}
+use Rattle.cb_semirings.specs.Tables.{min_plus}
 use Rattle.cb_matrix.specs.Sparse.{Sparse}
 use Rattle.cb_market_lines.specs.Reads.{Reads}
 use Rattle.cb_operations.specs.declared.operations.Operation.{Operation}
@@ -16,7 +16,7 @@ use Rattle.cb_rank_operations.specs.Outcomes.{IsLossFor, IsRefusal}
 use Rattle.cb_rank_operations.specs.Searched.{IsWalkLoss, IsWalkRefusal}
 use Rattle.cb_job_inputs.specs.Inputs.{AreMatrices}
 use Rattle.cb_job_ends.specs.Texts.{text_at}
-use Rattle.cb_job_ends.specs.WriteEnds.{IsEnd}
+use Rattle.cb_job_output.specs.Answers.{IsAnswered}
 use Rattle.cb_job_ends.specs.declared.faults.JobFault.{JobFault}
 use Rattle.cb_job_ends.specs.declared.faults.JobFault.TheVariants.{Output}
 use Rattle.cb_jobs.specs.Answers.{IsRanksFaultOver, IsRanksWalkFault}
@@ -44,25 +44,16 @@ not_output (operation_is.Failed (fault_is.Gone rank)) h = cc
 not_output (operation_is.Failed fault_is.TraceTorn) h = cc
 not_output (operation_is.Failed (fault_is.Lost rank refusals)) h = cc
 
-keeps_itself : (written : Option (List ℕ)) → Keeps written written
-keeps_itself None = tt
-keeps_itself (Some bytes) = refl
-
-err_of : {T : Type 0} (r : Result T JobFault) (f g : JobFault) → r ≡ Err f → r ≡ Err g → f ≡ g
-err_of r f g e h = cc
-
--- the end of a call whose search fails, before it writes
-pub end_of_search : {T : Type 0} {IsText : List ℕ → Type 0} (s : Arithmetic) (source : ℕ) (engine : Engine) (side : ℕ) (texts : List (List ℕ)) (graph : Distributed) (fault : OperationFault) (f : JobFault)
-    (written : Option (List ℕ)) (failed : Bool) → Reads s (text_at texts 0) graph.matrix → graph.side ≡ side → IsWalkRefusal engine graph.side graph.matrix.shape source fault
-    → IsWalkLoss engine graph.side graph.matrix source fault → f ≡ fault_of_operation fault → failed ≡ false → IsEnd {T = T} IsText (IsRanksWalkFault s source engine side texts) written written failed (Err f)
-end_of_search s source engine side texts graph fault f written failed reads on_side told lost is works =
-    let unwritten : f ≡ Output → ⊥ = λ e. not_output fault (sym is ∙ e) in
+-- the end of a task whose search fails
+pub end_of_search : {S : Type 0} {IsText : List ℕ → Type 0} (s : Arithmetic) (source : ℕ) (engine : Engine) (side : ℕ) (texts : List (List ℕ)) (graph : Distributed) (fault : OperationFault) (f : JobFault)
+    → Reads s (text_at texts 0) graph.matrix → graph.side ≡ side → IsWalkRefusal engine graph.side graph.matrix.shape source fault
+    → IsWalkLoss engine graph.side graph.matrix source fault → f ≡ fault_of_operation fault → IsAnswered {S = S} min_plus IsText (IsRanksWalkFault s source engine side texts) (Err f)
+end_of_search s source engine side texts graph fault f reads on_side told lost is =
     let told_there = subst (λ q. IsWalkRefusal engine q graph.matrix.shape source fault) on_side told in
     let lost_there = subst (λ q. IsWalkLoss engine q graph.matrix source fault) on_side lost in
     record {
-      whole = tt;
+      answer = tt;
+      unwritten = tt;
       fault = subst (IsRanksWalkFault s source engine side texts) (sym is) (of_search s source engine side texts graph.matrix fault reads told_there lost_there);
-      nothing = λ _. keeps_itself written;
-      output = λ e. absurd (unwritten (err_of (Err f) f Output refl e));
-      failed = (λ e. absurd (unwritten (err_of (Err f) f Output refl e)), λ t. absurd cc);
+      before = λ e. not_output fault (sym is ∙ e);
     }

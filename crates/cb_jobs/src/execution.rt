@@ -1,43 +1,61 @@
 //! Does a job on the texts of its files.
 ghost use Rattle.std.specs.Prelude.{◌≡◌, vec_len, false};
 ghost use Rattle.cb_command_line.specs.Jobs.{graph_file_count_of};
-ghost use Rattle.cb_jobs.specs.JobEnds.{IsGraphEndBy, IsJobEnd, IsSearchEnd};
+ghost use Rattle.cb_jobs.specs.JobEnds.{IsGraphAnsweredBy, IsJobEnd, IsSearchAnswered, IsSearchEnd};
 
 use crate::job_operations::execute_operation;
 use crate::job_selections::execute_selection;
 use crate::ranks::{Ranks, ranks_of};
-use crate::searches_by_ranks::{put_distances, put_levels};
+use crate::searches_by_ranks::{distances_answer, levels_answer};
 use cb_command_line::{GraphTask, Job, Task};
 use cb_job_ends::faults::JobFault;
 use cb_job_ends::sinks::Sink;
 use cb_job_ends::texts::Text;
-use cb_job_graphs::graph_tasks::execute_graph_task;
+use cb_job_graphs::graph_tasks::graph_answer;
+use cb_job_output::answers::{Answer, put_answer};
+use cb_semirings::MinPlus;
 use std::alloc::Global;
 use std::sync::Wait;
 use std::thread::Threads;
 
-/// Does a task on a graph: ranks compute levels and distances from one source; the caller's thread computes everything else.
-fn search_by<R: Threads + Wait + Sync, K: Sink>(
+/// The answer of a task on a graph: ranks compute levels and distances from one source; the caller's thread computes everything
+/// else.
+fn ranks_graph_answer<R: Threads + Wait + Sync>(
     rt: &R,
     alloc: Global,
     ranks: &Ranks<'_>,
     task: GraphTask,
     texts: Vec<Text>,
-    out: &mut K,
-) -> Result<(), JobFault>
-    requires texts { vec_len texts ≡ graph_file_count_of task }
-    requires works { K.has_failed out.old ≡ false }
-    ensures { IsGraphEndBy ranks.now task texts.items (K.written out.old) (K.written out.new) (K.has_failed out.new) result }
+) -> Result<Answer<MinPlus>, JobFault>
+    requires { vec_len texts ≡ graph_file_count_of task }
+    ensures { IsGraphAnsweredBy ranks.now task texts.items result }
 {
     match task {
-        GraphTask::Levels { source } => put_levels(rt, alloc, ranks, source, texts, out),
-        GraphTask::Distances { source } => put_distances(rt, alloc, ranks, source, texts, out),
-        _ => execute_graph_task(rt, alloc, ranks.threads, task, texts, out),
+        GraphTask::Levels { source } => levels_answer(rt, alloc, ranks, source, texts),
+        GraphTask::Distances { source } => distances_answer(rt, alloc, ranks, source, texts),
+        _ => graph_answer(rt, alloc, ranks.threads, task, texts),
     }
 }
 
-/// Does a task on a graph, by the ranks of a job or without any.
-fn search<R: Threads + Wait + Sync, K: Sink>(
+/// The answer of a task on a graph, by the ranks of a job or without any.
+fn graph_answer_by<R: Threads + Wait + Sync>(
+    rt: &R,
+    alloc: Global,
+    job: &Job,
+    task: GraphTask,
+    texts: Vec<Text>,
+) -> Result<Answer<MinPlus>, JobFault>
+    requires { vec_len texts ≡ graph_file_count_of task }
+    ensures { IsSearchAnswered job.now task texts.items result }
+{
+    match ranks_of(job) {
+        Some(ranks) => ranks_graph_answer(rt, alloc, &ranks, task, texts),
+        None => graph_answer(rt, alloc, job.threads, task, texts),
+    }
+}
+
+/// Writes the answer of a task on a graph.
+fn put_graph<R: Threads + Wait + Sync, K: Sink>(
     rt: &R,
     alloc: Global,
     job: &Job,
@@ -49,10 +67,8 @@ fn search<R: Threads + Wait + Sync, K: Sink>(
     requires works { K.has_failed out.old ≡ false }
     ensures { IsSearchEnd job.now task texts.items (K.written out.old) (K.written out.new) (K.has_failed out.new) result }
 {
-    match ranks_of(job) {
-        Some(ranks) => search_by(rt, alloc, &ranks, task, texts, out),
-        None => execute_graph_task(rt, alloc, job.threads, task, texts, out),
-    }
+    let answer = graph_answer_by(rt, alloc, job, task, texts)?;
+    put_answer(rt, alloc, job.threads, answer, out)
 }
 
 /// Reads the texts of a job's files in the job's order, computes the answer by what the job names, and writes its text. If
@@ -82,6 +98,6 @@ pub fn execute<R: Threads + Wait + Sync, K: Sink>(
         Task::Selection(task, semiring) => {
             execute_selection(rt, alloc, job.threads, task, semiring, texts, out)
         }
-        Task::Graph(task) => search(rt, alloc, job, task, texts, out),
+        Task::Graph(task) => put_graph(rt, alloc, job, task, texts, out),
     }
 }

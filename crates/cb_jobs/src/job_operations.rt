@@ -6,7 +6,7 @@ ghost use Rattle.cb_rank_operations.specs.Outcomes.{LieOver, wholes};
 ghost use Rattle.cb_semirings.specs.Names.{arithmetic_of};
 ghost use Rattle.cb_job_inputs.specs.Inputs.{AreMatrices, IsReadFault};
 ghost use Rattle.cb_jobs.specs.Answers.{IsOutcomeOver, IsRanksFaultOver};
-ghost use Rattle.cb_jobs.specs.JobEnds.{IsOperationEnd, IsRanksEnd};
+ghost use Rattle.cb_jobs.specs.JobEnds.{IsOperationAnswered, IsOperationEnd, IsRanksAnswered};
 
 use crate::ranks::{Ranks, job_fault, ranks_of};
 use crate::trace_lines::lines_of;
@@ -16,8 +16,8 @@ use cb_job_ends::faults::JobFault;
 use cb_job_ends::sinks::Sink;
 use cb_job_ends::texts::Text;
 use cb_job_inputs::inputs::{read_one, read_three, read_two};
-use cb_job_operations::operation_answers::put_operation;
-use cb_job_output::output::put_blocks_and_lines;
+use cb_job_operations::operation_answers::operation_answer;
+use cb_job_output::answers::{Answer, put_answer};
 use cb_layout::DistributedMatrix;
 use cb_operations::{Operands, Operation};
 use cb_rank_engines::Outcome;
@@ -75,29 +75,42 @@ fn outcome_of<S: Based + Send + Sync, R: Threads + Wait + Sync>(
     }
 }
 
-/// Writes the result of an operation over a semiring, and then the lines of the trace if the engine keeps one.
-fn put_outcome<S: Based + Send + Sync, R: Threads + Wait + Sync, K: Sink>(
+/// Reads the operands of an operation over a semiring, and computes its result by ranks: the answer whose text is that of the
+/// result and then, if the engine keeps a trace, a line for each event.
+fn ranks_answer<S: Based + Send + Sync, R: Threads + Wait + Sync>(
     rt: &R,
     alloc: Global,
     ranks: &Ranks<'_>,
     operation: Operation,
     texts: Vec<Text>,
-    out: &mut K,
-) -> Result<(), JobFault>
-    requires texts { vec_len texts ≡ operand_count_of operation }
-    requires works { K.has_failed out.old ≡ false }
-    ensures { IsRanksEnd operation S.arithmetic ranks.now texts.items (K.written out.old) (K.written out.new) (K.has_failed out.new) result }
+) -> Result<Answer<S>, JobFault>
+    requires { vec_len texts ≡ operand_count_of operation }
+    ensures { IsRanksAnswered operation S.arithmetic ranks.now texts.items result }
 {
     let done = outcome_of::<S, R>(rt, alloc, ranks, operation, texts)?;
-    let Ok(lines) = lines_of(alloc, &done.trace) else {
-        return Err(JobFault::Memory);
-    };
-    let (threads, lines) = (ranks.threads, lines.as_bytes());
-    put_blocks_and_lines(rt, alloc, threads, done.answer, lines, out)
+    let lines = lines_of(alloc, &done.trace)?;
+    Ok(Answer::Blocks(done.answer, lines))
 }
 
-/// Writes the result of an operation over a semiring, and then the lines of the trace, by the ranks of a job or without any.
-fn put_operation_by<S: Based + Send + Sync, R: Threads + Wait + Sync, K: Sink>(
+/// The same by the ranks of a job or without any.
+fn operation_answer_by<S: Based + Send + Sync, R: Threads + Wait + Sync>(
+    rt: &R,
+    alloc: Global,
+    job: &Job,
+    operation: Operation,
+    texts: Vec<Text>,
+) -> Result<Answer<S>, JobFault>
+    requires { vec_len texts ≡ operand_count_of operation }
+    ensures { IsOperationAnswered job.now operation S.arithmetic texts.items result }
+{
+    match ranks_of(job) {
+        Some(ranks) => ranks_answer::<S, R>(rt, alloc, &ranks, operation, texts),
+        None => operation_answer::<S, R>(rt, alloc, job.threads, operation, texts),
+    }
+}
+
+/// Writes the answer of an operation over a semiring.
+fn put_operation<S: Based + Send + Sync, R: Threads + Wait + Sync, K: Sink>(
     rt: &R,
     alloc: Global,
     job: &Job,
@@ -109,10 +122,8 @@ fn put_operation_by<S: Based + Send + Sync, R: Threads + Wait + Sync, K: Sink>(
     requires works { K.has_failed out.old ≡ false }
     ensures { IsOperationEnd job.now operation S.arithmetic texts.items (K.written out.old) (K.written out.new) (K.has_failed out.new) result }
 {
-    match ranks_of(job) {
-        Some(ranks) => put_outcome::<S, R, K>(rt, alloc, &ranks, operation, texts, out),
-        None => put_operation::<S, R, K>(rt, alloc, job.threads, operation, texts, out),
-    }
+    let answer = operation_answer_by::<S, R>(rt, alloc, job, operation, texts)?;
+    put_answer(rt, alloc, job.threads, answer, out)
 }
 
 /// Writes the result of an operation over the semiring of a name.
@@ -131,6 +142,6 @@ pub fn execute_operation<R: Threads + Wait + Sync, K: Sink>(
 {
     over_semiring!(
         semiring,
-        put_operation_by::<_, R, K>(rt, alloc, job, operation, texts, out)
+        put_operation::<_, R, K>(rt, alloc, job, operation, texts, out)
     )
 }

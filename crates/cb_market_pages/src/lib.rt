@@ -14,4 +14,4 @@ mod writing;
 pub use pages::Page;
 pub use sheets::{MOST_LINES, Share, Sheet};
 pub use text_pages::TextPages;
-pub use writing::{text, vertex_pairs_text, vertex_text};
+pub use writing::{column_text, text, vertex_pairs_text, vertex_text};

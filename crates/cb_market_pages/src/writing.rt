@@ -121,11 +121,18 @@ pub fn text<S: Semiring>(alloc: Global, matrix: &Block<S>) -> Result<Vec<u8>, Al
 
 /// Writes the stored entries of a vector, one line each: the number of the vertex, counted from 1, and its value. There
 /// is no header.
-pub fn vertex_text(alloc: Global, vector: &Matrix<MinPlus>) -> Result<Vec<u8>, AllocError>
-    requires { vector.now.shape.cols ≡ 1 }
+pub fn vertex_text<S: Semiring>(alloc: Global, vector: &Matrix<S>) -> Result<Vec<u8>, AllocError>
     ensures { IfOk result (λ bytes. bytes.items ≡ vertex_text_of vector.now) }
 {
     vertex_lines(alloc, vector.shape(), vector.entries())
+}
+
+/// The same of a block of one column. Besides the text it takes memory for a list of the entries.
+pub fn column_text<S: Semiring>(alloc: Global, column: &Block<S>) -> Result<Vec<u8>, AllocError>
+    ensures { IfOk result (λ bytes. bytes.items ≡ vertex_text_of column.now) }
+{
+    let entries = column.entries()?;
+    vertex_lines(alloc, column.shape(), &entries)
 }
 
 /// Copies the entries of a vector whose values are vertices, with the values counted from 1.

@@ -1,12 +1,14 @@
-//! Products of blocks by several threads, which share the operands.
+//! Operations by several threads, which share the operands: [`operate`] does any.
 //!
-//! Each thread makes a panel of the product: the product of the left block and some columns of the right. The columns
+//! For a product, each thread makes a panel of it: the product of the left block and some columns of the right. The columns
 //! are divided so that all panels take about the same number of products of two values, as in `cb_shares`. No operand is
 //! copied, and one index of the left block's columns serves all threads.
 //!
 //! The caller's thread starts a thread for each panel, and waits. If no thread is available, it makes the panel itself. The
 //! panels stand side by side, and no entry is copied; [`multiply`] copies them into one block, for callers that need one.
 #![tactic(auto)]
+
+mod operations;
 
 ghost use Rattle.std.specs.Prelude.{◌≡◌, ◌<◌, ◌≤◌, IfOk, length};
 ghost use Rattle.std.specs.Thread.{IsSync};
@@ -18,22 +20,24 @@ use cb_dcsc::Block;
 use cb_layout::PanelledMatrix;
 use cb_product::{ColumnIndex, multiply_columns, products_of_columns, total_products};
 use cb_semirings::Semiring;
+pub use operations::operate;
 use std::alloc::{AllocError, Global};
 use std::thread::{Threads, join};
 
-/// Into how many panels a product is divided.
+/// Into how many panels a result is divided.
 #[derive(Clone, Copy)]
 pub struct Panels {
     /// At most this many.
     pub most: u32,
-    /// So few that each takes this many products. Columns stay whole, so one panel may take fewer.
-    pub least_products: usize,
+    /// So few that each takes this many products of two values or, where none are made, entries of the operands. Columns stay
+    /// whole, so one panel may take fewer.
+    pub least: usize,
 }
 
 impl Panels {
     /// Into how many panels a product is divided that takes this many products of two values.
     fn of(&self, products: usize) -> u32 {
-        let fitting = products / self.least_products.max(1);
+        let fitting = products / self.least.max(1);
         fitting.min(self.most as usize) as u32
     }
 }

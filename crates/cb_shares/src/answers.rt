@@ -17,7 +17,7 @@ use cb_serial::{binary, ternary, unary};
 use std::alloc::{AllocError, Global};
 
 /// Whether each column of the answer is made of the same columns of all operands.
-fn is_by_columns(operation: Operation) -> bool
+pub fn is_by_columns(operation: Operation) -> bool
     ensures { IsTrue result → IsByColumns operation }
 {
     match operation {

@@ -24,7 +24,7 @@ ghost use Rattle.cb_matrix.specs.Values.{product, product_shape};
 ghost use Rattle.cb_operations.specs.Selected.{excluded};
 ghost use Rattle.cb_shares.specs.Shares.{panel, AreEnds};
 
-pub use answers::{operation_columns, product_columns};
+pub use answers::{is_by_columns, operation_columns, product_columns};
 use cb_dcsc::Block;
 use cb_masked::{multiply_masked_columns, multiply_outside_columns};
 use cb_product::{ColumnIndex, products_of_columns, total_products};

@@ -86,10 +86,7 @@ fn product_with_one<R: Threads + Sync>(
     if left.shape().cols() != right.shape().rows() {
         return Err(Kind::TooLarge);
     }
-    let panels = Panels {
-        most,
-        least_products: 1,
-    };
+    let panels = Panels { most, least: 1 };
     match multiply_panels(rt, alloc, panels, &left, right) {
         Ok(product) => Ok(product),
         Err(AllocError) => Err(Kind::Memory),

@@ -7,4 +7,4 @@ pub returns-in-Selection : goal.returns-in-Selection
 returns-in-Selection g c = rw c.in-Selection.is c.execute_selection.ensures
 
 pub returns-in-Graph : goal.returns-in-Graph
-returns-in-Graph g c = rw c.in-Graph.is c.search.ensures
+returns-in-Graph g c = rw c.in-Graph.is c.put_graph.ensures

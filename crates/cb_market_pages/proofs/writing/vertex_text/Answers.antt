@@ -4,4 +4,4 @@ use Rattle.cb_market_pages.proofs.writing.vertex_text.Goals as goal
 
 pub returns : goal.returns
 unfolding vertex_text_of
-returns c = search rules
+returns g c = search rules
