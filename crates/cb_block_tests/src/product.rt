@@ -289,6 +289,43 @@ fn marked_rows_come_in_order(rt: HostRuntime) {
     assert!(rt; has_marked_rows(rt.alloc()) == Ok(true));
 }
 
+/// A column with an entry in every third row, and two with entries at both ends of groups of 4,096 rows.
+fn far_apart(alloc: Global) -> Result<Vec<Entry>, AllocError> {
+    let mut entries = Vec::new(alloc);
+    for n in 0..6666u32 {
+        entries.push(entry(n.wrapping_mul(3), 0, u64::from(n) + 1))?;
+    }
+    for (row, column, value) in [
+        (4095, 1, 2),
+        (4096, 1, 3),
+        (8191, 1, 5),
+        (8191, 2, 7),
+        (12288, 2, 11),
+        (19999, 2, 13),
+    ] {
+        entries.push(entry(row, column, value))?;
+    }
+    Ok(entries)
+}
+
+/// Columns that select one column, two, and all three.
+const FAR: &[Entry] = entries![
+    (0, 0, 1),
+    (1, 1, 2),
+    (2, 1, 3),
+    (0, 2, 1),
+    (1, 2, 4),
+    (2, 2, 5),
+    (1, 3, 6),
+    (2, 3, 7)
+];
+
+/// The first column has so many products that the others are summed row by row, in few groups of rows or in all.
+#[test]
+fn marked_rows_far_apart_come_in_order(rt: HostRuntime) {
+    assert!(rt; is_plain_far_apart(rt.alloc()) == Ok(true));
+}
+
 /// Two factors, a block, and the sum of their product and the block.
 #[derive(Clone, Copy)]
 struct Added<'a> {
@@ -528,6 +565,12 @@ fn is_plain_among(alloc: Global, rows: u32) -> Result<bool, SampleFault> {
     let left = spread(alloc, rows)?;
     let right = named(alloc)?;
     are_plain(alloc, [rows, 30, 4], [&left, &right, FEW])
+}
+
+/// Whether they agree with groups of rows far apart.
+fn is_plain_far_apart(alloc: Global) -> Result<bool, SampleFault> {
+    let left = far_apart(alloc)?;
+    are_plain(alloc, [20000, 3, 4], [&left, FAR, FEW])
 }
 
 /// Two factors: the left one has this many columns.

@@ -89,6 +89,29 @@ const PARTS: &[Case<'static>] = &[
         &[((4, 5), SCATTERED)],
         ((2, 3), entries![(0, 0, 3), (1, 0, 4), (1, 2, 7)]),
     ),
+    // columns with rows before the part, in it and after it, in it alone, before it alone, and after it alone
+    (
+        Call::Cut((2, 6), (1, 5)),
+        &[(
+            (9, 6),
+            entries![
+                (3, 0, 1),
+                (0, 1, 2),
+                (1, 1, 3),
+                (2, 1, 4),
+                (5, 1, 5),
+                (6, 1, 6),
+                (8, 1, 7),
+                (3, 2, 8),
+                (4, 2, 9),
+                (0, 3, 10),
+                (1, 3, 11),
+                (6, 4, 12),
+                (5, 5, 13)
+            ],
+        )],
+        ((4, 4), entries![(0, 0, 4), (3, 0, 5), (1, 1, 8), (2, 1, 9)]),
+    ),
     (Call::Cut((0, 2), (0, 2)), &[FIRST], FIRST),
     (Call::Cut((1, 1), (0, 2)), &[FIRST], ((0, 2), &[])),
     (Call::Cut((0, 2), (2, 2)), &[FIRST], ((2, 0), &[])),

@@ -224,8 +224,8 @@ fn replaced() -> &'static [Case<'static>] {
     REPLACED
 }
 
-/// Rows and columns in another order, some left out and some repeated; none; rows in order, some and all; and the last of the
-/// largest sides.
+/// Rows and columns in another order, some left out and some repeated; none; rows in order, some and all; columns without
+/// entries before them; and the last of the largest sides.
 const EXTRACTED: &[Case<'static>] = &[
     (
         Call::Extract(&[3, 0, 0], &[3, 1, 3, 0]),
@@ -234,6 +234,19 @@ const EXTRACTED: &[Case<'static>] = &[
             (3, 4),
             entries![(0, 0, 7), (0, 1, 4), (0, 2, 7), (1, 3, 1), (2, 3, 1)],
         ),
+    ),
+    (
+        Call::Extract(&[0, 1, 2, 3], &[4, 0, 3]),
+        &[GIVEN],
+        (
+            (4, 3),
+            entries![(0, 0, 8), (0, 1, 1), (2, 1, 2), (2, 2, 6), (3, 2, 7)],
+        ),
+    ),
+    (
+        Call::Extract(&[0, 2, 1, 3], &[1, 4]),
+        &[GIVEN],
+        ((4, 2), entries![(2, 0, 3), (3, 0, 4), (0, 1, 8)]),
     ),
     (Call::Extract(&[], &[1, 1]), &[GIVEN], ((0, 2), &[])),
     (Call::Extract(&[2], &[]), &[GIVEN], ((1, 0), &[])),
@@ -276,6 +289,11 @@ const EXTRACTED: &[Case<'static>] = &[
                 (2, 4, 8)
             ],
         ),
+    ),
+    (
+        Call::ExtractColumns(&[2, 0, 1]),
+        &[((2, 3), entries![(1, 1, 5), (0, 2, 6)])],
+        ((2, 3), entries![(0, 0, 6), (1, 2, 5)]),
     ),
     (
         Call::ExtractColumns(&[LAST, LAST]),

@@ -4,10 +4,10 @@ use Rattle.std.specs.Prelude.{All}
 use Rattle.std.specs.Int.{bit_at, bit_not, trailing_zeros, w64}
 use Rattle.std.proofs.lemmas.Bool.{cases_eq, cases_lt}
 use Rattle.std.proofs.lemmas.List.{length-set, get_or-set_same, get_or-set_other, get_or_past}
-use Rattle.std.proofs.lemmas.List.Elements.{All-get_or}
+use Rattle.std.proofs.lemmas.List.Elements.{All-get_or, All-weaker}
 use Rattle.std.proofs.lemmas.Nat.{and_le_l}
 use Rattle.std.proofs.lemmas.Nat.Bits.{bit_at-lt, bit_at-zero, bit_at_and, bit_at_mask_inside, bit_at_mask_below, ones_shl, bit_at_set_same, bit_at_set_other, bit_at_clear_same, bit_at_clear_other, bit_at_above, bit_at-trailing_zeros}
-use Rattle.cb_product.specs.Marks.{mark_of, AreMarked}
+use Rattle.cb_product.specs.Marks.{mark_of, AreMarked, IsZeroOutside}
 
 -- a row's bit is set in its word
 module _ (words : List ℕ) (row : ℕ) (l : row / 64 < length words) where
@@ -283,27 +283,11 @@ module _ (z : ℕ) (sums new marks groups : List ℕ) (n : ℕ) (m : AreMarked z
             (cases_eq k n);
       }
 
--- if no word is marked, no row is, and all sums are zero
-module _ (z : ℕ) (sums marks groups : List ℕ) (m : AreMarked z sums marks groups) (none : (k : ℕ) → get_or marks k 0 ≡ 0) where
-  -- if each word of marks is zero, so is each sum
-  pub all_taken : (i : ℕ) → get_or sums i z ≡ z
-  all_taken i = m.unmarked i (none_in_word marks (i / 64) (none (i / 64)) i refl)
-
-  -- and the marks of words can be removed
-  pub marked_cleared : (groups' : List ℕ) → length groups' ≡ length groups → All (λ word. word ≡ 0) groups' → AreMarked z sums marks groups'
-  marked_cleared groups' long cleared =
-      let groups_room = m.groups_room in
-      let groups_limit = m.groups_limit in
-      record {
-        room = m.room;
-        groups_room = omega arith;
-        limit = m.limit;
-        groups_limit = omega arith;
-        inside = m.inside;
-        groups_inside = λ i past. none_at_all groups' cleared i;
-        unmarked = m.unmarked;
-        no_group = λ k e. none k;
-      }
+-- if each word of marks is zero, so is each sum
+pub all_taken : (z : ℕ) (sums marks groups : List ℕ) → AreMarked z sums marks groups → ((k : ℕ) → get_or groups k 0 ≡ 0) → (i : ℕ) → get_or sums i z ≡ z
+all_taken z sums marks groups m none i =
+    let word : get_or marks (i / 64) 0 ≡ 0 = m.no_group (i / 64) (none_in_word groups (i / 64 / 64) (none (i / 64 / 64)) (i / 64) refl) in
+    m.unmarked i (none_in_word marks (i / 64) word i refl)
 
 -- ---- the lowest bit of a word is removed
 module _ (w : ℕ) (fits : w < 18446744073709551616) (some : 0 < w) where
@@ -354,3 +338,75 @@ module _ (w : ℕ) (fits : w < 18446744073709551616) (some : 0 < w) where
   gone_bit k none one =
       let small : k < 64 = ⊎_elim (λ (l : k < 64). l) (λ (l : 64 ≤ k). let z = above k l in absurd (omega arith)) (cases_lt k 64) in
       ⊎_elim (λ (e : k ≡ low). e) (λ (e : k ≡ low → ⊥). let ne : k ≢ low = e in let z = sym (bit_at_clear_other w64 w low low_within k small ne) ∙ none in absurd (omega arith)) (cases_eq k low)
+
+-- ---- the lowest mark of a word of groups
+module _ (z : ℕ) (sums marks groups : List ℕ) (n w : ℕ) (m : AreMarked z sums marks groups) (l : n < length groups) (is : get_or groups n 0 ≡ w) (fits : w < 18446744073709551616) (some : 0 < w) where
+  abbrev word : ℕ
+  word = n * 64 + trailing_zeros w64 w
+
+  q : word / 64 ≡ n
+  q = let s = low_within w fits some in omega arith
+
+  r : word % 64 ≡ trailing_zeros w64 w
+  r = let s = low_within w fits some in omega arith
+
+  -- the word of marks is marked
+  lowest_marked : mark_of groups word ≡ 1
+  lowest_marked = (λ t. bit_at (get_or groups (q t) 0) (r t)) ∙ ap (λ x. bit_at x (trailing_zeros w64 w)) is ∙ low_set w fits some
+
+  -- it is one of the words
+  pub lowest_inside : word < length marks
+  lowest_inside = group_inside z sums marks groups word m lowest_marked
+
+  abbrev without_word : List ℕ
+  without_word = set groups n (without_low w fits some)
+
+  word_gone : mark_of without_word word ≡ 0
+  word_gone = (λ t. bit_at (get_or without_word (q t) 0) (r t)) ∙ ap (λ x. bit_at x (trailing_zeros w64 w)) (get_or-set_same groups n _ 0 l) ∙ bit_at_clear_same w64 w (trailing_zeros w64 w) (low_within w fits some)
+
+  words_left : (j : ℕ) → j ≢ word → mark_of without_word j ≡ mark_of groups j
+  words_left j ne = ⊎_elim
+      (λ (e : j / 64 ≡ n).
+      let other : j % 64 ≢ trailing_zeros w64 w = λ t. ne (omega arith) in
+      ap (λ k. bit_at (get_or without_word k 0) (j % 64)) e ∙ ap (λ x. bit_at x (j % 64)) (get_or-set_same groups n _ 0 l) ∙ bit_at_clear_other w64 w (trailing_zeros w64 w) (low_within w fits some) (j % 64) (omega arith) other ∙ ap (λ x. bit_at x (j % 64)) (sym is) ∙ ap (λ k. bit_at (get_or groups k 0) (j % 64)) (sym e))
+      (λ (e : j / 64 ≡ n → ⊥). let far : j / 64 ≢ n = e in ap (λ x. bit_at x (j % 64)) (get_or-set_other groups n (j / 64) _ 0 far))
+      (cases_eq (j / 64) n)
+
+  -- if the word of marks is zero, its mark can be removed
+  pub lowest_removed : get_or marks word 0 ≡ 0 → AreMarked z sums marks without_word
+  lowest_removed none =
+      let same = length-set groups n (without_low w fits some) in
+      let groups_room = m.groups_room in
+      let groups_limit = m.groups_limit in
+      record {
+        room = m.room;
+        groups_room = omega arith;
+        limit = m.limit;
+        groups_limit = omega arith;
+        inside = m.inside;
+        groups_inside = λ j past. ⊎_elim (λ (e : j ≡ word). ap (mark_of without_word) e ∙ word_gone) (λ (e : j ≡ word → ⊥). words_left j e ∙ m.groups_inside j past) (cases_eq j word);
+        unmarked = m.unmarked;
+        no_group = λ j gone. ⊎_elim (λ (e : j ≡ word). ap (λ k. get_or marks k 0) e ∙ none) (λ (e : j ≡ word → ⊥). m.no_group j (sym (words_left j e) ∙ gone)) (cases_eq j word);
+      }
+
+-- ---- words that are zero outside a range
+-- they stay so if one inside changes
+pub zero_still : (first end n : ℕ) (old new : List ℕ) → first ≤ n → n < end → ((k : ℕ) → k ≢ n → get_or new k 0 ≡ get_or old k 0) → IsZeroOutside first end old → IsZeroOutside first end new
+zero_still first end n old new a b others h = record {
+  before = λ k l. others k (omega arith) ∙ h.before k l;
+  after = λ k l. others k (omega arith) ∙ h.after k l;
+}
+
+-- they are all zero if those before the range's end are
+pub all_zero : (first end n : ℕ) (words : List ℕ) → min end (length words) ≤ n → ((k : ℕ) → k < n → get_or words k 0 ≡ 0) → IsZeroOutside first end words → (k : ℕ) → get_or words k 0 ≡ 0
+all_zero first end n words past passed h k = ⊎_elim
+    (λ (a : k < n). passed k a)
+    (λ (a : n ≤ k). ⊎_elim (λ (b : k < end). get_or_past words k 0 (omega arith)) (λ (b : end ≤ k). h.after k b) (cases_lt k end))
+    (cases_lt k n)
+
+-- they stay so where the range becomes wider, if all words that change are of some rows and the range contains those
+pub zero_wider : (first end first' end' : ℕ) (old new rows : List ℕ) → ((k : ℕ) → All (λ i. i / 4096 ≢ k) rows → get_or new k 0 ≡ get_or old k 0) → first' ≤ first → end ≤ end' → All (λ i. (first' ≤ i / 4096) × (i / 4096 < end')) rows → IsZeroOutside first end old → IsZeroOutside first' end' new
+zero_wider first end first' end' old new rows others a b inside h = record {
+  before = λ k l. others k (All-weaker (λ i. (first' ≤ i / 4096) × (i / 4096 < end')) (λ i. i / 4096 ≢ k) (λ i p e. (let q = p.0 in absurd (omega arith))) rows inside) ∙ h.before k (omega arith);
+  after = λ k l. others k (All-weaker (λ i. (first' ≤ i / 4096) × (i / 4096 < end')) (λ i. i / 4096 ≢ k) (λ i p e. (let q = p.1 in absurd (omega arith))) rows inside) ∙ h.after k (omega arith);
+}

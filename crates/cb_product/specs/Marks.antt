@@ -26,3 +26,8 @@ pub record AreMarked (zero : ℕ) (sums marks groups : List ℕ) : Type 0 where
 pub record IsAccumulator (s : Arithmetic) (sums marks groups : List ℕ) : Type 0 where
   pub values : All (IsValue s) sums
   pub marked : AreMarked s.zero sums marks groups
+
+-- words are zero before a first one, and from another one on
+pub record IsZeroOutside (first end : ℕ) (words : List ℕ) : Type 0 where
+  pub before : (k : ℕ) → k < first → slice_index words k ≡ 0
+  pub after : (k : ℕ) → end ≤ k → slice_index words k ≡ 0

@@ -6,7 +6,7 @@
 //!
 //! - a single term is joined with the accumulator's column: O(entries of both);
 //! - if the column has many entries for the number of rows, terms are added up in a sparse accumulator, an array with a
-//!   place for each row: O(products), plus a scan of the words that mark its rows;
+//!   place for each row: O(products), plus a scan of the words that mark rows between its first and its last;
 //! - a few terms are joined one after another: O(products * terms);
 //! - many terms are merged by a heap: O(products * log terms).
 //!
@@ -284,8 +284,8 @@ fn room_for(left: usize, right: usize, accumulator: usize, products: usize) -> u
 }
 
 /// Whether the sparse accumulator pays for a column with this many entries. It does if the column has an entry for every
-/// 16,384 rows, for which four words are scanned, and the columns so far, with this one, have an entry for every four rows.
-/// So the accumulator is never longer than a few times the entries that it can serve.
+/// 16,384 rows, for which at most four words are scanned, and the columns so far, with this one, have an entry for every four
+/// rows. So the accumulator is never longer than a few times the entries that it can serve.
 fn is_dense(rows: u32, entries: usize, seen: usize) -> bool {
     let rows = rows as usize;
     rows / 16384 <= entries && rows / 4 <= seen

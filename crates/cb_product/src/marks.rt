@@ -74,8 +74,8 @@ pub(crate) fn is_marked(words: &[u64], row: usize) -> bool
     (words[row / 64] >> (row % 64)) % 2 == 1
 }
 
-/// Marks a row, and the word with its mark. A row that is known to be marked costs nothing, and one that is marked already
-/// one look, since many products have the same row.
+/// Marks a row, and the word with its mark. A row that is known to be marked costs nothing, since many products have the same
+/// row.
 #[inline(always)]
 pub(crate) fn mark_row(marks: &mut [u64], groups: &mut [u64], row: usize, is_known: bool)
     requires known { IsTrue is_known → mark_of marks.old row ≡ 1 }
@@ -89,44 +89,11 @@ pub(crate) fn mark_row(marks: &mut [u64], groups: &mut [u64], row: usize, is_kno
     ensures groups_length { length groups.new ≡ length groups.old }
     ensures group { mark_of groups.new (row / 64) ≡ 1 }
     ensures other_groups { (n : ℕ) → n ≢ row / 64 → mark_of groups.new n ≡ mark_of groups.old n }
+    ensures group_words { (k : ℕ) → k ≢ row / 4096 → slice_index groups.new k ≡ slice_index groups.old k }
 {
-    if is_known || is_marked(marks, row) {
+    if is_known {
         return;
     }
     mark(marks, row);
     mark(groups, row / 64);
-}
-
-/// Returns the first marked row from a row on.
-pub(crate) fn next_marked(words: &[u64], from: usize) -> Option<usize>
-    requires { length words.now < 2 ^ 32 }
-    ensures from { IfSome result (λ row. from ≤ row) }
-    ensures marked { IfSome result (λ row. mark_of words.now row ≡ 1) }
-    ensures first { IfSome result (λ row. (i : ℕ) → from ≤ i → i < row → mark_of words.now i ≡ 0) }
-    ensures none { IfNone result ((i : ℕ) → from ≤ i → mark_of words.now i ≡ 0) }
-{
-    let at = from / 64;
-    if at >= words.len() {
-        return None;
-    }
-    let word = words[at] & (u64::MAX << (from % 64));
-    if word != 0 {
-        return Some(at * 64 + word.trailing_zeros() as usize);
-    }
-    for n in at + 1..words.len() {
-        if words[n] != 0 {
-            return Some(n * 64 + words[n].trailing_zeros() as usize);
-        }
-    }
-    None
-}
-
-/// Removes all marks.
-pub(crate) fn unmark_all(words: &mut [u64])
-    ensures length { length words.new ≡ length words.old }
-    ensures none { All (λ word. word ≡ 0) words.new }
-{
-    for n in 0..words.len() {
-        words[n] = 0;
-    }
 }

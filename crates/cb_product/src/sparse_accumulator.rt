@@ -2,19 +2,20 @@
 //!
 //! A product is added to the sum of its row. A bit marks each row that got one, and a second level of bits marks each word
 //! of 64 such bits. The marks are read in order, so the rows need no sorting, and one word of the second level tells which
-//! of 4,096 rows to look at. It is the accumulator of Gilbert, Moler and Schreiber, Sparse Matrices in MATLAB (SIAM J.
-//! Matrix Anal. Appl. 1992, section 3.1), with bits in place of a list of rows.
-ghost use Rattle.std.specs.Prelude.{◌≡◌, ℕ, ◌<◌, ◌≤◌, ◌+◌, ◌*◌, ◌^◌, List, [], length, All, AllPairs, IfOk, IfSome, OnOk, slice_index_or};
+//! of 4,096 rows to look at. Only words between those of the first and the last row are read. It is the accumulator of
+//! Gilbert, Moler and Schreiber, Sparse Matrices in MATLAB (SIAM J. Matrix Anal. Appl. 1992, section 3.1), with bits in place
+//! of a list of rows.
+ghost use Rattle.std.specs.Prelude.{◌≡◌, ◌≢◌, ℕ, ◌<◌, ◌≤◌, ◌+◌, ◌*◌, ◌/◌, ◌^◌, length, All, AllPairs, IfOk, IfSome, OnOk, slice_index, slice_index_or};
 ghost use Rattle.std.specs.Int.{bit_at};
 ghost use Rattle.cb_semirings.specs.Arithmetic.{IsValue};
 ghost use Rattle.cb_product.specs.SparseColumn.{IsColumnOf, scaled_at};
 ghost use Rattle.cb_product.specs.DenseSums.{AddsToSums, ZerosStay, column_and_sum};
 ghost use Rattle.cb_product.specs.Terms.{IsTerm, terms_value};
-ghost use Rattle.cb_product.specs.Marks.{IsAccumulator};
+ghost use Rattle.cb_product.specs.Marks.{IsAccumulator, IsZeroOutside};
 ghost use Rattle.cb_product.specs.Outside.{scaled_unmarked, terms_unmarked};
 
 use crate::columns::{Column, scaled};
-use crate::marks::{is_marked, mark_row, next_marked, unmark_all};
+use crate::marks::{is_marked, mark_row};
 use crate::terms::Term;
 use cb_semirings::Semiring;
 use std::alloc::{AllocError, Global};
@@ -28,18 +29,20 @@ pub(crate) struct SparseAccumulator<S: Semiring> {
     marks: Vec<u64>,
     /// A bit for each word of `marks`.
     groups: Vec<u64>,
+    /// A range of words of `groups`, by the first one and the one after the last. The words outside it are zero.
+    used: (usize, usize),
     semiring: PhantomData<S>,
 }
 
 impl<S: Semiring> Model for SparseAccumulator<S> {
     ghost use Rattle.std.specs.Prelude.{List, ℕ};
-    ghost use Rattle.cb_product.specs.Marks.{IsAccumulator};
+    ghost use Rattle.cb_product.specs.Marks.{IsAccumulator, IsZeroOutside};
 
     ghost Value = { List ℕ };
 
     ghost view = { λ a. a.sums.items };
 
-    ghost invariant = { λ a. IsAccumulator S.arithmetic a.sums.items a.marks.items a.groups.items };
+    ghost invariant = { λ a. IsAccumulator S.arithmetic a.sums.items a.marks.items a.groups.items × IsZeroOutside a.used.0 a.used.1 a.groups.items };
 }
 
 impl<S: Semiring> SparseAccumulator<S> {
@@ -56,6 +59,7 @@ impl<S: Semiring> SparseAccumulator<S> {
             sums,
             marks,
             groups,
+            used: (usize::MAX, 0),
             semiring: PhantomData,
         })
     }
@@ -95,9 +99,11 @@ impl<S: Semiring> SparseAccumulator<S> {
             sums,
             marks,
             groups,
+            used,
             ..
         } = self;
         add_entries::<S>(sums, marks, groups, rows, values, scale);
+        *used = widened(*used, rows);
     }
 
     /// Adds terms to the sums of their rows.
@@ -143,9 +149,11 @@ impl<S: Semiring> SparseAccumulator<S> {
             sums,
             marks,
             groups,
+            used,
             ..
         } = self;
         add_entries_outside::<S>(sums, marks, groups, rows, values, scale, excluded);
+        *used = widened(*used, rows);
     }
 
     /// Adds terms to the sums of their rows, except for the excluded rows, which are marked.
@@ -175,8 +183,8 @@ impl<S: Semiring> SparseAccumulator<S> {
         }
     }
 
-    /// Moves all sums into a column, which replaces the one in `made`, and leaves zeros. Costs O(a + n / 4096) for n rows of
-    /// which a were added to.
+    /// Moves all sums into a column, which replaces the one in `made`, and leaves zeros. Costs O(a + n / 4096) for a rows that
+    /// were added to, the first and the last of which are n rows apart.
     pub fn take(&mut self, made: &mut Column<S>) -> Result<(), AllocError>
         ensures length { length self.new ≡ length self.old }
         ensures zeros { OnOk result (All (λ x. x ≡ S.arithmetic.zero) self.new) }
@@ -186,9 +194,29 @@ impl<S: Semiring> SparseAccumulator<S> {
             sums,
             marks,
             groups,
+            used,
             ..
         } = self;
-        take_rows(made, sums, marks, groups)
+        take_rows(made, sums, marks, groups, *used)?;
+        *used = (usize::MAX, 0);
+        Ok(())
+    }
+}
+
+/// A range of words of `groups`, extended to the words for these rows, which ascend.
+#[inline(always)]
+fn widened(used: (usize, usize), rows: &[u32]) -> (usize, usize)
+    requires { AllPairs (λ i j. i < j) rows.now }
+    ensures first { result.0 ≤ used.0 }
+    ensures end { used.1 ≤ result.1 }
+    ensures rows { All (λ i. (result.0 ≤ i / 4096) × (i / 4096 < result.1)) rows.now }
+{
+    match (rows.first(), rows.last()) {
+        (Some(first), Some(last)) => (
+            used.0.min(*first as usize / 4096),
+            used.1.max(*last as usize / 4096 + 1),
+        ),
+        _ => used,
     }
 }
 
@@ -210,6 +238,7 @@ fn add_entries<S: Semiring>(
     requires inside { All (λ i. i < length sums.old) rows.now }
     requires accumulator { IsAccumulator S.arithmetic sums.old marks.old groups.old }
     ensures accumulator { IsAccumulator S.arithmetic sums.new marks.new groups.new }
+    ensures groups { (k : ℕ) → All (λ i. i / 4096 ≢ k) rows.now → slice_index groups.new k ≡ slice_index groups.old k }
     ensures length { length sums.new ≡ length sums.old }
     ensures sums { AddsToSums S.arithmetic (length sums.old) (scaled_at S.arithmetic rows.now values.now scale) sums.old sums.new }
 {
@@ -240,6 +269,7 @@ fn add_entries_outside<S: Semiring>(
     requires room { length sums.old ≤ 64 * length excluded.now }
     requires accumulator { IsAccumulator S.arithmetic sums.old marks.old groups.old }
     ensures accumulator { IsAccumulator S.arithmetic sums.new marks.new groups.new }
+    ensures groups { (k : ℕ) → All (λ i. i / 4096 ≢ k) rows.now → slice_index groups.new k ≡ slice_index groups.old k }
     ensures length { length sums.new ≡ length sums.old }
     ensures sums { AddsToSums S.arithmetic (length sums.old) (scaled_unmarked S.arithmetic excluded.now rows.now values.now scale) sums.old sums.new }
 {
@@ -285,27 +315,61 @@ fn take_word<S: Semiring>(
     Ok(())
 }
 
-/// Moves all sums into a column, which replaces the one in `made`, and leaves zeros. Only marked words are read.
+/// Moves the sums of the rows in the words that the nth word of `groups` marks into a column, and leaves zeros. A row's value
+/// in the column plus its sum stays the same.
+fn take_group<S: Semiring>(
+    made: &mut Column<S>,
+    sums: &mut [u64],
+    marks: &mut [u64],
+    groups: &mut [u64],
+    n: usize,
+) -> Result<(), AllocError>
+    requires inside { n < length groups.old }
+    requires accumulator { IsAccumulator S.arithmetic sums.old marks.old groups.old }
+    requires before { All (λ i. i < n * 4096) made.old.rows }
+    ensures accumulator { IsAccumulator S.arithmetic sums.new marks.new groups.new }
+    ensures length { length sums.new ≡ length sums.old }
+    ensures groups_length { length groups.new ≡ length groups.old }
+    ensures others { (k : ℕ) → k ≢ n → slice_index groups.new k ≡ slice_index groups.old k }
+    ensures none { OnOk result (slice_index groups.new n ≡ 0) }
+    ensures rows { OnOk result (All (λ i. i < n * 4096 + 4096) made.new.rows) }
+    ensures together { OnOk result ((i : ℕ) → column_and_sum S.arithmetic made.new sums.new i ≡ column_and_sum S.arithmetic made.old sums.old i) }
+{
+    let mut rest = groups[n];
+    while rest != 0 {
+        let bit = rest.trailing_zeros();
+        let word = n * 64 + bit as usize;
+        take_word(made, sums, word, marks[word])?;
+        marks[word] = 0;
+        rest &= !(1 << bit);
+        groups[n] = rest;
+    }
+    Ok(())
+}
+
+/// Moves all sums into a column, which replaces the one in `made`, and leaves zeros. Only marked words are read, and words of
+/// `groups` in a range outside which they are zero.
 fn take_rows<S: Semiring>(
     made: &mut Column<S>,
     sums: &mut [u64],
     marks: &mut [u64],
     groups: &mut [u64],
+    used: (usize, usize),
 ) -> Result<(), AllocError>
-    requires { IsAccumulator S.arithmetic sums.old marks.old groups.old }
+    requires accumulator { IsAccumulator S.arithmetic sums.old marks.old groups.old }
+    requires used { IsZeroOutside used.0 used.1 groups.old }
     ensures accumulator { IsAccumulator S.arithmetic sums.new marks.new groups.new }
+    ensures used { IsZeroOutside used.0 used.1 groups.new }
     ensures length { length sums.new ≡ length sums.old }
+    ensures none { OnOk result ((k : ℕ) → slice_index groups.new k ≡ 0) }
     ensures zeros { OnOk result (All (λ x. x ≡ S.arithmetic.zero) sums.new) }
     ensures column { OnOk result (IsColumnOf S.arithmetic (λ i. slice_index_or sums.old i S.arithmetic.zero) made.new) }
 {
     made.clear();
-    let mut from = 0;
-    while let Some(n) = next_marked(groups, from) {
-        take_word(made, sums, n, marks[n])?;
-        marks[n] = 0;
-        from = n + 1;
+    let end = used.1.min(groups.len());
+    for n in used.0..end {
+        take_group(made, sums, marks, groups, n)?;
     }
     prove_eq!(made.entries().0.len(), made.entries().1.len());
-    unmark_all(groups);
     Ok(())
 }

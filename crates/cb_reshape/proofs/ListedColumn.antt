@@ -1,15 +1,15 @@
 -- The values of a list, stored as a column.
-use Rattle.std.proofs.Common.{◌≡◌, ◌≢◌, ℕ, suc, ◌+◌, ◌<◌, cond, List, [], ◌∷◌, ◌++◌, length, sym, refl, ap, ◌∙◌, arith}
+use Rattle.std.proofs.Common.{◌≡◌, ◌≢◌, ℕ, suc, ◌+◌, ◌-◌, ◌<◌, cond, List, [], ◌∷◌, ◌++◌, length, take, drop, sym, refl, ap, ◌∙◌, arith}
 use Rattle.std.specs.Prelude.{All, AllPairs, ◌==◌}
 use Rattle.std.proofs.lemmas.Bool.{eq-eqb, ne_eqb, cond-true, cond-false}
-use Rattle.std.proofs.lemmas.List.{append-nil, length_push}
+use Rattle.std.proofs.lemmas.List.{append-nil, length_push, take_all}
 use Rattle.std.proofs.lemmas.List.Elements.{All-nil, All-push, All-weaker}
 use Rattle.cb_semirings.specs.Arithmetic.{Arithmetic, IsValue}
 use Rattle.cb_matrix.specs.declared.Entry.{Entry}
 use Rattle.cb_matrix.specs.Sparse.{Sparse, Extent}
 use Rattle.cb_matrix.specs.Values.{column_of, columns_of, matrix_of}
 use Rattle.cb_matrix.proofs.Pairs.{AllPairs-nil, AllPairs-push}
-use Rattle.cb_dcsc.specs.Compressed.{entries_in}
+use Rattle.cb_dcsc.specs.Compressed.{entries_in, pieces, csc_entries, csc_matrix, AreStarts}
 use Rattle.cb_dcsc.proofs.ColumnEntries.{entries_in-push}
 
 -- the rows below n at which f isn't zero, and the values there
@@ -76,3 +76,23 @@ unfolding columns_of
 all_stored s f shape n rows stored one all h =
     ap (λ (es : List Entry). let m : Sparse = record { shape = shape; entries = es } in m)
     (h.entries ∙ ap (column_of s.zero (λ i _. f i) 0) (sym all) ∙ (λ t. columns_of s.zero (λ i _. f i) shape.rows (sym one t)))
+
+-- ---- compressed columns of one column
+-- it starts at 0 and ends with the list
+pub one_start : (n : ℕ) (rows stored : List ℕ) → n ≡ length rows → length stored ≡ length rows → AreStarts 1 (0 ∷ n ∷ []) rows stored
+one_start n rows stored e same = record {
+  count = refl;
+  first = refl;
+  rising = λ j l. (let first : j ≡ 0 = omega arith in rw first (omega arith));
+  last = e;
+  same_length = same;
+}
+
+-- its entries are those of the lists
+pub one_column : (shape : Extent) (n : ℕ) (rows stored : List ℕ) → shape.cols ≡ 1 → n ≡ length rows → length stored ≡ length rows → csc_matrix shape (0 ∷ n ∷ []) rows stored ≡ record { shape = shape; entries = entries_in 0 rows stored }
+unfolding pieces
+one_column shape n rows stored one e same =
+    let all : take (n - 0) (drop 0 rows) ≡ rows = take_all (n - 0) rows (omega arith) in
+    let all_stored : take (n - 0) (drop 0 stored) ≡ stored = take_all (n - 0) stored (omega arith) in
+    ap (λ (es : List Entry). let m : Sparse = record { shape = shape; entries = es } in m)
+    (ap (csc_entries (0 ∷ n ∷ []) rows stored) one ∙ (λ t. entries_in 0 (all t) (all_stored t)))

@@ -3,13 +3,13 @@ use Rattle.std.proofs.Common.{◌≡◌, ℕ, zero, suc, ◌+◌, ◌-◌, ◌<�
 use Rattle.std.specs.Prelude.{All, AllPairs}
 use Rattle.std.proofs.lemmas.Bool.{cases_Bool}
 use Rattle.std.proofs.lemmas.Bool.Decides.{nat_tests}
-use Rattle.std.proofs.lemmas.List.{append-nil, map-append, take_more, take-append-drop, get_or-take, get_or-drop, length-take-le}
+use Rattle.std.proofs.lemmas.List.{append-nil, map-append, take_more, take-append-drop, get_or-take, get_or-drop, get_or-map, length-map, length-take-le}
 use Rattle.std.proofs.lemmas.List.Elements.{All-head, All-tail, All-append, All-map, All-filter, All-from_get_or, All-weaker, filter-append, filter_passes}
 use Rattle.cb_matrix.specs.declared.Entry.{Entry}
 use Rattle.cb_matrix.specs.Sparse.{Sparse, IsBefore}
 use Rattle.cb_dcsc.specs.Compressed.{entries_in}
 use Rattle.cb_dcsc.specs.Columns.{with_entry, with_entries}
-use Rattle.cb_dcsc.proofs.ColumnEntries.{length-entries_in}
+use Rattle.cb_dcsc.proofs.ColumnEntries.{length-entries_in, entries_in-push}
 use Rattle.cb_reshape.specs.declared.parts.Part.{Part}
 use Rattle.cb_reshape.specs.Moving.{is_in, moved_entry, moved_entries}
 
@@ -134,6 +134,60 @@ module _ (part : Part) (c : ℕ) (rows values : List ℕ) (lengths : length valu
       let k_below : k < n = omega arith in
       let e = get_or-take n all k blank k_below ∙ entry_in c rows values k blank lengths (omega arith) in
       subst (λ x. (x.column ≡ c) × (x.row < get_or rows n 0)) (sym e) (refl, up k n 0 k_below l)))
+
+  -- the entries of the part follow one another: they are those at its rows, moved
+  abbrev pub moved_rows : ℕ → ℕ → List ℕ
+  moved_rows a m = map (λ i. i - part.rows.0 + part.corner.0) (take m (drop a rows))
+
+  pub column_moved : (a m n : ℕ) → n ≡ a + m → n ≤ length rows → ((k : ℕ) → k < a → get_or rows k 0 < part.rows.0) → ((k : ℕ) → a ≤ k → k < length rows → part.rows.0 ≤ get_or rows k 0) → ((k : ℕ) → k < n → get_or rows k 0 < part.rows.1) → part.cols.0 ≤ c → c < part.cols.1
+      → entries_in (c - part.cols.0 + part.corner.1) (moved_rows a m) (take m (drop a values)) ≡ moved_entries part (take n all)
+  unfolding entries_in
+  column_moved a zero n e l below first last p q = sym (taken_none n l (λ k b. below k (omega arith)))
+  column_moved a (suc m) n e l below first last p q =
+      let row = get_or rows (a + m) 0 in
+      let value = get_or values (a + m) 0 in
+      let next : suc m ≡ m + 1 = omega arith in
+      let last_place : a + m + 1 ≡ n = omega arith in
+      let rest = length-drop a rows in
+      let rest_values = length-drop a values in
+      let more : take (suc m) (drop a rows) ≡ take m (drop a rows) ++ row ∷ [] = ap (λ i. take i (drop a rows)) next ∙ take_more (drop a rows) m 0 (omega arith) ∙ ap (λ r. take m (drop a rows) ++ r ∷ []) (get_or-drop a rows m 0) in
+      let more_values : take (suc m) (drop a values) ≡ take m (drop a values) ++ value ∷ [] = ap (λ i. take i (drop a values)) next ∙ take_more (drop a values) m 0 (omega arith) ∙ ap (λ v. take m (drop a values) ++ v ∷ []) (get_or-drop a values m 0) in
+      let same : length (take m (drop a values)) ≡ length (moved_rows a m) = (let x = length-take-le m (drop a rows) (omega arith) in let y = length-take-le m (drop a values) (omega arith) in let z = length-map (take m (drop a rows)) (λ i. i - part.rows.0 + part.corner.0) in omega arith) in
+      (λ t. entries_in (c - part.cols.0 + part.corner.1) (map (λ i. i - part.rows.0 + part.corner.0) (more t)) (more_values t))
+      ∙ ap (λ is. entries_in (c - part.cols.0 + part.corner.1) is (take m (drop a values) ++ value ∷ [])) (map-append (λ i. i - part.rows.0 + part.corner.0) (take m (drop a rows)) (row ∷ []))
+      ∙ entries_in-push (c - part.cols.0 + part.corner.1) (moved_rows a m) (take m (drop a values)) (row - part.rows.0 + part.corner.0) value same
+      ∙ ap (λ es. es ++ record { row = row - part.rows.0 + part.corner.0; column = c - part.cols.0 + part.corner.1; value = value } ∷ []) (column_moved a m (a + m) refl (omega arith) below first (λ k x. last k (omega arith)) p q)
+      ∙ sym (taken_more (a + m) (omega arith) (first (a + m) (omega arith) (omega arith)) (last (a + m) (omega arith)) p q)
+      ∙ ap (λ i. moved_entries part (take i all)) last_place
+
+-- what holds of each element from one place up to another holds of these
+pub range_all : (P : ℕ → Type 0) (xs : List ℕ) (a b : ℕ) → a ≤ b → b ≤ length xs → ((k : ℕ) → a ≤ k → k < b → P (get_or xs k 0)) → All P (take (b - a) (drop a xs))
+range_all P xs a b l m h = All-from_get_or P (take (b - a) (drop a xs)) 0 (λ k n.
+    let rest = length-drop a xs in
+    let count = length-take-le (b - a) (drop a xs) (omega arith) in
+    let e = get_or-take (b - a) (drop a xs) k 0 (omega arith) ∙ get_or-drop a xs k 0 in
+    subst P (sym e) (h (a + k) (omega arith) (omega arith)))
+
+-- numbers that ascend do so from one place up to another
+pub range_ascends : (xs : List ℕ) (a b : ℕ) → a ≤ b → b ≤ length xs → AllPairs (λ i j. i < j) xs → AllPairs (λ i j. i < j) (take (b - a) (drop a xs))
+range_ascends xs a b l m up i j d less n =
+    let rest = length-drop a xs in
+    let count = length-take-le (b - a) (drop a xs) (omega arith) in
+    let x = get_or-take (b - a) (drop a xs) i d (omega arith) ∙ get_or-drop a xs i d in
+    let y = get_or-take (b - a) (drop a xs) j d (omega arith) ∙ get_or-drop a xs j d in
+    rw (x, y) (up (a + i) (a + j) d (omega arith) (omega arith))
+
+-- and after a move
+pub moved_ascend : (xs : List ℕ) (from to : ℕ) → All (λ i. from ≤ i) xs → AllPairs (λ i j. i < j) xs → AllPairs (λ i j. i < j) (map (λ i. i - from + to) xs)
+moved_ascend xs from to above up i j d l m =
+    let f : ℕ → ℕ = λ i. i - from + to in
+    let long = length-map xs f in
+    let inside : j < length xs = omega arith in
+    let less = up i j 0 l inside in
+    let first = above i 0 (omega arith) in
+    let x = get_or-map f xs i 0 d (omega arith) in
+    let y = get_or-map f xs j 0 d inside in
+    rw (x, y) (omega arith)
 
 -- ---- a column after those before it
 -- what was stored before the column comes before an entry of it

@@ -1,20 +1,19 @@
 -- Sums of rows in a list of one number for each row, to which entries are added one after another.
-use Rattle.std.proofs.Common.{◌≡◌, ◌≢◌, ℕ, suc, ◌+◌, ◌<◌, ◌≤◌, true, false, cond, List, [], ◌∷◌, ◌++◌, length, map, drop, get_or, set, sym, refl, ap, subst, ◌∙◌, ⊎_elim, inr, arith}
+use Rattle.std.proofs.Common.{◌≡◌, ℕ, ◌+◌, ◌<◌, ◌≤◌, true, false, cond, List, [], ◌∷◌, length, map, drop, get_or, set, sym, refl, ap, subst, ◌∙◌, ⊎_elim, arith}
 use Rattle.std.specs.Prelude.{All, AllPairs, ◌==◌, ◌&&◌}
 use Rattle.std.specs.List.{range_with_len}
 use Rattle.std.proofs.lemmas.Bool.{cases_eq, eq-eqb, ne_eqb, cond-true, cond-false}
-use Rattle.std.proofs.lemmas.List.{append-nil, drop_more, drop_all, get_or_default, get_or-set_same, get_or-set_other}
+use Rattle.std.proofs.lemmas.List.{drop_more, drop_all, get_or_default, get_or-set_same, get_or-set_other}
 use Rattle.std.proofs.lemmas.List.Elements.{All-head, All-tail, All-get_or, All-drop, All-weaker}
 use Rattle.cb_semirings.specs.Arithmetic.{Arithmetic, IsValue, IsSemiring}
 use Rattle.cb_matrix.specs.declared.Entry.{Entry}
 use Rattle.cb_matrix.specs.Sparse.{Sparse, Extent, IsMatrix, IsBefore, IsInside, is_at, value_at}
-use Rattle.cb_matrix.specs.Values.{total, column_of, columns_of, matrix_of}
+use Rattle.cb_matrix.specs.Values.{total, matrix_of}
 use Rattle.cb_matrix.specs.Operations.{row_sums}
-use Rattle.cb_matrix.proofs.Made.{column_all, same_matrix_of}
+use Rattle.cb_matrix.proofs.Made.{same_matrix_of}
 use Rattle.cb_matrix.proofs.Pairs.{AllPairs-head, AllPairs-tail}
 use Rattle.cb_matrix.proofs.Places.{is_at-parts, value_at-before, IsPlaceBefore}
 use Rattle.cb_matrix.proofs.Totals.{add_zero, total-zero, total-same, total-add, total-single, value_at-value}
-use Rattle.cb_dcsc.specs.Columns.{with_entry}
 use Rattle.cb_reshape.specs.Sums.{row_total, AddsRowSums}
 
 abbrev pub no_entry : Entry

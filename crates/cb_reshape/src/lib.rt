@@ -3,9 +3,9 @@
 //!
 //! No value changes: each entry moves to another place or is left out. Cutting and placing keep the order of the entries,
 //! by column and then by row, so one walk over the columns does both (`parts`): it takes the entries in some rows and
-//! columns and shifts them. It finds these rows and columns by binary search, so what is left out is not read. The
-//! transpose needs the entries in another order: by a counting sort (`counting`), or, if a list as long as a dimension
-//! would cost more than the block, by comparisons.
+//! columns and shifts them. It finds these rows and columns by binary search, so what is left out is not read. A column of
+//! which the part has all rows, or none, is not searched. The transpose needs the entries in another order: by a counting
+//! sort (`counting`), or, if a list as long as a dimension would cost more than the block, by comparisons.
 //!
 //! The operations are those by which Buluç and Gilbert, The Combinatorial BLAS (Int. J. High Perform. Comput. Appl. 2011,
 //! section 4), distribute a matrix over a grid of processes and put it together again.
@@ -82,8 +82,8 @@ fn transpose_by_sorting<S: Semiring>(
 /// The part of a block in a range of rows and a range of columns, each given by its first number and the one after its
 /// last. The first row and column of the part are row 0 and column 0 of the result.
 ///
-/// Costs a few instructions for each entry of the part, two binary searches for each of its columns that has entries, and
-/// two more for the columns themselves.
+/// Costs a few instructions for each entry of the part, two binary searches for each of its columns that has entries in its
+/// rows and in others, and two more for the columns themselves. The result takes no more memory than its entries.
 pub fn cut<S: Semiring>(
     alloc: Global,
     block: &Block<S>,
@@ -102,13 +102,13 @@ pub fn cut<S: Semiring>(
         cols,
         corner: (0, 0),
     };
-    moved(alloc, shape, block, part, 0)
+    moved(alloc, shape, block, part)
 }
 
 /// The block placed in a larger shape, with its row 0 and column 0 at `corner`, a row and a column. No entries are around
 /// it.
 ///
-/// Costs a few instructions for each entry, and two binary searches for each column that has entries.
+/// Costs a few instructions for each entry.
 pub fn place<S: Semiring>(
     alloc: Global,
     block: &Block<S>,
@@ -125,7 +125,7 @@ pub fn place<S: Semiring>(
         cols: (0, inner.cols()),
         corner,
     };
-    moved(alloc, shape, block, part, block.len())
+    moved(alloc, shape, block, part)
 }
 
 /// The block of one column that has the values of a list, each in the row of its place. Zeros aren't stored.
@@ -150,9 +150,7 @@ pub fn column_of_list<S: Semiring>(
             stored.push(value)?;
         }
     }
-    let mut made = Block::empty(alloc, shape);
-    made.push_column(0, &rows, &stored)?;
-    Ok(made)
+    Block::from_csc(alloc, shape, &[0, rows.len()], rows, stored)
 }
 
 /// Exchanges the row and the column of each entry.

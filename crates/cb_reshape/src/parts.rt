@@ -1,13 +1,13 @@
 //! A part of a block, moved to another place.
-ghost use Rattle.std.specs.Prelude.{◌≡◌, ◌≢◌, ℕ, ◌<◌, ◌≤◌, ◌+◌, ◌-◌, length, slice_index, All, AllPairs, IfOk, OnOk};
+ghost use Rattle.std.specs.Prelude.{◌≡◌, ◌≢◌, ℕ, ◌<◌, ◌≤◌, ◌+◌, ◌-◌, ◌^◌, length, map, slice_index, All, AllPairs, IfOk, OnOk};
 ghost use Rattle.cb_semirings.specs.Arithmetic.{IsValue};
 ghost use Rattle.cb_matrix.specs.Sparse.{IsMatrix};
-ghost use Rattle.cb_dcsc.specs.Columns.{with_entries};
+ghost use Rattle.cb_dcsc.specs.Columns.{columns_with_entries, with_entries};
 ghost use Rattle.cb_dcsc.specs.Compressed.{entries_in};
 ghost use Rattle.cb_reshape.specs.Moving.{Fits, moved_entries};
 
 use cb_dcsc::Block;
-use cb_matrix::{Entry, Shape};
+use cb_matrix::Shape;
 use cb_semirings::Semiring;
 use std::alloc::{AllocError, Global};
 
@@ -20,34 +20,49 @@ pub(crate) struct Part {
     pub corner: (u32, u32),
 }
 
-/// The part of a block, in a block of the given shape. It gets room for this many entries at the start.
+/// The part of a block, in a block of the given shape.
 pub(crate) fn moved<S: Semiring>(
     alloc: Global,
     shape: Shape,
     block: &Block<S>,
     part: Part,
-    room: usize,
 ) -> Result<Block<S>, AllocError>
     requires matrix { IsMatrix S.arithmetic block.now }
     requires fits { Fits shape part }
     ensures entries { IfOk result (λ m. m ≡ record { shape = shape; entries = moved_entries part block.now.entries }) }
     ensures matrix { IfOk result (λ m. IsMatrix S.arithmetic m) }
 {
-    let mut out = Block::empty(alloc, shape);
-    out.reserve(room)?;
     let columns = block.column_numbers();
     let first = first_from(columns, part.cols.0);
     let last = first_from(columns, part.cols.1);
+    let mut out = Block::empty(alloc, shape);
+    out.reserve(count(block, first, last, part.rows))?;
+    let mut list = Vec::new(alloc);
     for n in first..last {
         let (rows, values) = block.nth_column(n);
-        append_column(&mut out, columns[n], rows, values, part)?;
+        append_column(&mut out, &mut list, columns[n], rows, values, part)?;
     }
     Ok(out)
 }
 
-/// Appends what the part has of one of its columns.
+/// How many entries a range of rows has in the columns with entries from the nth up to another.
+fn count<S: Semiring>(block: &Block<S>, first: usize, last: usize, rows: (u32, u32)) -> usize
+    requires range { rows.0 ≤ rows.1 }
+    requires within { last ≤ length (columns_with_entries block.now.entries) }
+{
+    let mut entries = 0usize;
+    for n in first..last {
+        let (all, _) = block.nth_column(n);
+        let (start, end) = range_within(all, rows);
+        entries = entries.saturating_add(end - start);
+    }
+    entries
+}
+
+/// Appends what the part has of one of its columns. The list is for the moved rows.
 fn append_column<S: Semiring>(
     out: &mut Block<S>,
+    list: &mut Vec<u32>,
     column: u32,
     rows: &[u32],
     values: &[u64],
@@ -65,25 +80,54 @@ fn append_column<S: Semiring>(
     ensures entries { OnOk result (out.new ≡ with_entries out.old (moved_entries part (entries_in column rows.now values.now))) }
     ensures matrix { OnOk result (IsMatrix S.arithmetic out.new) }
 {
-    let start = first_from(rows, part.rows.0);
-    let end = first_from(rows, part.rows.1);
-    for n in start..end {
-        out.push(Entry {
-            row: rows[n] - part.rows.0 + part.corner.0,
-            column: column - part.cols.0 + part.corner.1,
-            value: values[n],
-        })?;
+    let (start, end) = range_within(rows, part.rows);
+    fill_moved(list, &rows[start..end], part.rows.0, part.corner.0)?;
+    let moved_column = column - part.cols.0 + part.corner.1;
+    out.push_column(moved_column, list, &values[start..end])?;
+    Ok(())
+}
+
+/// Fills a list with numbers, moved so that `from` comes to `to`.
+fn fill_moved(list: &mut Vec<u32>, numbers: &[u32], from: u32, to: u32) -> Result<(), AllocError>
+    requires above { All (λ i. from ≤ i) numbers.now }
+    requires limit { All (λ i. i - from + to < 2 ^ 32) numbers.now }
+    ensures { OnOk result (list.new.items ≡ map (λ i. i - from + to) numbers.now) }
+{
+    list.clear();
+    list.reserve(numbers.len())?;
+    for number in numbers {
+        list.push_reserved(*number - from + to);
     }
     Ok(())
 }
 
-/// How many of these numbers, which ascend, are below a bound.
+/// Where those of these numbers, which ascend, that are in a range start and end.
+fn range_within(numbers: &[u32], range: (u32, u32)) -> (usize, usize)
+    requires range { range.0 ≤ range.1 }
+    requires ascending { AllPairs (λ i j. i < j) numbers.now }
+    ensures order { result.0 ≤ result.1 }
+    ensures within { result.1 ≤ length numbers.now }
+    ensures before { (k : ℕ) → k < result.0 → slice_index numbers.now k < range.0 }
+    ensures first { (k : ℕ) → result.0 ≤ k → k < length numbers.now → range.0 ≤ slice_index numbers.now k }
+    ensures last { (k : ℕ) → k < result.1 → slice_index numbers.now k < range.1 }
+    ensures after { (k : ℕ) → result.1 ≤ k → k < length numbers.now → range.1 ≤ slice_index numbers.now k }
+{
+    (first_from(numbers, range.0), first_from(numbers, range.1))
+}
+
+/// How many of these numbers, which ascend, are below a bound. They are searched only if some are below it and some aren't.
 fn first_from(numbers: &[u32], bound: u32) -> usize
     requires { AllPairs (λ i j. i < j) numbers.now }
     ensures within { result ≤ length numbers.now }
     ensures below { (k : ℕ) → k < result → slice_index numbers.now k < bound }
     ensures from { (k : ℕ) → result ≤ k → k < length numbers.now → bound ≤ slice_index numbers.now k }
 {
+    if numbers.is_empty() || bound <= numbers[0] {
+        return 0;
+    }
+    if numbers[numbers.len() - 1] < bound {
+        return numbers.len();
+    }
     match numbers.binary_search(&bound) {
         Ok(n) => n,
         Err(n) => n,

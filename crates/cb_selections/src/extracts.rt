@@ -3,8 +3,10 @@
 //! Columns are found one by one. Rows are the columns of the transpose; but where their numbers ascend, their entries stay in
 //! order, so each entry's row is looked up instead, in a table with a place for each row of the block.
 ghost use Rattle.std.specs.Prelude.{◌≡◌, ◌≢◌, ℕ, ◌<◌, ◌≤◌, IsTrue, length, slice_index, All, AllPairs, IfOk, IfSome, IfNone, OnOk};
+ghost use Rattle.cb_semirings.specs.Arithmetic.{IsValue};
 ghost use Rattle.cb_matrix.specs.Sparse.{IsMatrix};
 ghost use Rattle.cb_matrix.specs.Values.{empty_matrix};
+ghost use Rattle.cb_dcsc.specs.Columns.{in_column, rows_of, values_of};
 ghost use Rattle.cb_selections.specs.Extracted.{extracted, rows_by, columns_by};
 ghost use Rattle.cb_selections.specs.ListedRows.{ArePlaces, IsListed};
 
@@ -21,7 +23,8 @@ const ROWS_PER_PLACE: usize = 4;
 
 /// The rows and columns of a block with the given numbers, in that order. A number may appear more than once.
 ///
-/// Costs a binary search for each column number, and what the rows cost (`extract_rows`) in these columns.
+/// Costs what the columns cost (`extract_columns`), and what the rows cost (`extract_rows`) in these columns. If the numbers of
+/// the rows are those of all rows, in order, each costs a comparison.
 pub fn extract<S: Semiring>(
     alloc: Global,
     block: &Block<S>,
@@ -35,7 +38,10 @@ pub fn extract<S: Semiring>(
     ensures { IfOk result (λ part. part ≡ extracted S.arithmetic rows.now cols.now block.now) }
 {
     let some = extract_columns(alloc, block, cols)?;
-    extract_rows(alloc, &some, rows)
+    if are_all(rows, some.shape().rows()) {
+        return Ok(some);
+    }
+    some_rows(alloc, &some, rows)
 }
 
 /// The rows of a block with the given numbers, in that order. A number may appear more than once.
@@ -52,10 +58,23 @@ pub fn extract_rows<S: Semiring>(
     requires limit { length rows.now ≤ LIMIT }
     ensures { IfOk result (λ part. part ≡ rows_by S.arithmetic rows.now block.now) }
 {
-    let height = block.shape().rows() as usize;
-    if rows.len() == height && counts_up(rows) {
+    if are_all(rows, block.shape().rows()) {
         return block.try_clone();
     }
+    some_rows(alloc, block, rows)
+}
+
+/// The rows with the given numbers, by a table or by transposes.
+fn some_rows<S: Semiring>(
+    alloc: Global,
+    block: &Block<S>,
+    rows: &[u32],
+) -> Result<Block<S>, AllocError>
+    requires rows { All (λ i. i < block.now.shape.rows) rows.now }
+    requires limit { length rows.now ≤ LIMIT }
+    ensures { IfOk result (λ part. part ≡ rows_by S.arithmetic rows.now block.now) }
+{
+    let height = block.shape().rows() as usize;
     if height / ROWS_PER_PLACE <= rows.len().max(block.len()) && ascends(rows) {
         return listed_rows(alloc, block, rows);
     }
@@ -77,16 +96,27 @@ fn turned_rows<S: Semiring>(
     transpose(alloc, &some_rows)
 }
 
-/// Whether numbers are 0, 1, 2 and so on.
-fn counts_up(numbers: &[u32]) -> bool
-    ensures { IsTrue result → (i : ℕ) → i < length numbers.now → slice_index numbers.now i ≡ i }
+/// Whether numbers are 0, 1, 2 and so on, up to a bound.
+fn are_all(numbers: &[u32], bound: u32) -> bool
+    ensures count { IsTrue result → length numbers.now ≡ bound }
+    ensures order { IsTrue result → (i : ℕ) → i < length numbers.now → slice_index numbers.now i ≡ i }
 {
-    for n in 0..numbers.len() {
-        if numbers[n] as usize != n {
-            return false;
+    numbers.len() == bound as usize && count_in_place(numbers, bound) == bound
+}
+
+/// How many of this many numbers are those of their places. There is no early exit, so the processor compares several at once.
+fn count_in_place(numbers: &[u32], len: u32) -> u32
+    requires { length numbers.now ≡ len }
+    ensures within { result ≤ len }
+    ensures all { result ≡ len → (i : ℕ) → i < len → slice_index numbers.now i ≡ i }
+{
+    let mut count = 0;
+    for n in 0..len {
+        if numbers[n as usize] == n {
+            count += 1;
         }
     }
-    true
+    count
 }
 
 /// The rows with the given numbers, which ascend, by a table of their places.
@@ -194,7 +224,7 @@ fn keep_listed(
 
 /// The columns of a block with the given numbers, in that order. A number may appear more than once.
 ///
-/// Costs a binary search for each number, and a few instructions for each entry of the result.
+/// Costs a copy of the entries of the result, and a binary search for each number of which a smaller one has no entries.
 pub fn extract_columns<S: Semiring>(
     alloc: Global,
     block: &Block<S>,
@@ -222,8 +252,24 @@ fn push_columns<S: Semiring>(
     ensures { OnOk result (out.new ≡ columns_by S.arithmetic columns.now block.now) }
 {
     for n in 0..columns.len() {
-        let (rows, values) = block.column(columns[n]);
+        let (rows, values) = column_of(block, columns[n]);
         out.push_column(n as u32, rows, values)?;
     }
     Ok(())
+}
+
+/// The rows of a column and its values. It isn't searched for if all columns before it have entries.
+#[inline(always)]
+fn column_of<S: Semiring>(block: &Block<S>, column: u32) -> (&[u32], &[u64])
+    ensures rows { result.0.now ≡ rows_of (in_column column block.now.entries) }
+    ensures values { result.1.now ≡ values_of (in_column column block.now.entries) }
+    ensures ascending { AllPairs (λ i j. i < j) result.0.now }
+    ensures are_values { All (IsValue S.arithmetic) result.1.now }
+{
+    let columns = block.column_numbers();
+    let n = column as usize;
+    if n < columns.len() && columns[n] == column {
+        return block.nth_column(n);
+    }
+    block.column(column)
 }

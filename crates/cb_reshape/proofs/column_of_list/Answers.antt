@@ -1,9 +1,11 @@
-use Rattle.std.proofs.Common.{◌≡◌, ℕ, ◌<◌, length, get_or, sym, ◌∙◌, arith}
+use Rattle.std.proofs.Common.{◌≡◌, ℕ, ◌<◌, length, get_or, sym, subst, ◌∙◌, arith}
 use Rattle.std.proofs.lemmas.List.{get_or_default}
 use Rattle.std.proofs.lemmas.List.Elements.{All-get_or}
 use Rattle.cb_semirings.specs.Arithmetic.{IsValue}
-use Rattle.cb_dcsc.specs.Compressed.{with_column}
-use Rattle.cb_reshape.proofs.ListedColumn.{stored_none, stored_next, not_stored, all_stored}
+use Rattle.cb_matrix.specs.Sparse.{IsMatrix}
+use Rattle.cb_matrix.proofs.Made.{IsMatrix-matrix_of}
+use Rattle.std.proofs.lemmas.Result.{IfOk-weaker}
+use Rattle.cb_reshape.proofs.ListedColumn.{stored_none, stored_next, not_stored, all_stored, one_start, one_column}
 use Rattle.cb_reshape.proofs.column_of_list.Goals as goal
 use Rattle.cb_reshape.proofs.column_of_list.Goals.{then-value-zero+in_ok-push+in_ok-push-2, else-value-zero}
 
@@ -32,11 +34,26 @@ loop-row-preserved g c =
           rw (w.rows-is, w.stored-is) (not_stored s f n rows stored (get_or values n 0) value (w.if-value-zero.false ∙ c.zero.ensures) inv)
     ]
 
+pub from_csc-requires-clause-starts : goal.from_csc-requires-clause-starts
+from_csc-requires-clause-starts g c =
+    let count : c.len.result ≡ length c.loop-row.rows.items = omega (arith, c.len.ensures, c.loop-row.rows.ok.0) in
+    rw c.requires.column (one_start c.len.result c.loop-row.rows.items c.loop-row.stored.items count c.loop-row.invariant.same_length)
+
+pub from_csc-requires-clause-matrix : goal.from_csc-requires-clause-matrix
+from_csc-requires-clause-matrix g c =
+    let s = g.S.Semiring.arithmetic in
+    let f : ℕ → ℕ = λ i. get_or c.args.values.now i s.zero in
+    let all : c.args.shape.rows ≡ c.loop-row.row = omega (arith, c.loop-row-test.false, c.loop-row.auto.row-end, c.rows-row-end.ensures.value) in
+    let count : c.len.result ≡ length c.loop-row.rows.items = omega (arith, c.len.ensures, c.loop-row.rows.ok.0) in
+    subst (IsMatrix s) (sym (one_column c.args.shape c.len.result c.loop-row.rows.items c.loop-row.stored.items c.requires.column count c.loop-row.invariant.same_length ∙ all_stored s f c.args.shape c.loop-row.row c.loop-row.rows.items c.loop-row.stored.items c.requires.column all c.loop-row.invariant))
+    (IsMatrix-matrix_of s c.args.shape (λ i _. f i) (λ i j l _. All-get_or (IsValue s) c.args.values.now i s.zero (rw c.requires.length l) c.requires.values))
+
 pub returns : goal.returns
 returns g c =
     let s = g.S.Semiring.arithmetic in
     let f : ℕ → ℕ = λ i. get_or c.args.values.now i s.zero in
     let all : c.args.shape.rows ≡ c.loop-row.row = omega (arith, c.loop-row-test.false, c.loop-row.auto.row-end, c.rows-row-end.ensures.value) in
-    c.in_ok-push_column.ensures.ok
-    ∙ (λ z. with_column (c.empty-made.ensures.value z) 0 (c.deref.ensures.value z) (c.deref-2.ensures.value z))
-    ∙ all_stored s f c.args.shape c.loop-row.row c.loop-row.rows.items c.loop-row.stored.items c.requires.column all c.loop-row.invariant
+    let count : c.len.result ≡ length c.loop-row.rows.items = omega (arith, c.len.ensures, c.loop-row.rows.ok.0) in
+    IfOk-weaker c.from_csc.result _ _
+    (λ m is. is ∙ one_column c.args.shape c.len.result c.loop-row.rows.items c.loop-row.stored.items c.requires.column count c.loop-row.invariant.same_length ∙ all_stored s f c.args.shape c.loop-row.row c.loop-row.rows.items c.loop-row.stored.items c.requires.column all c.loop-row.invariant)
+    c.from_csc.ensures

@@ -1,4 +1,5 @@
-use Rattle.std.proofs.Common.{◌≡◌, ℕ, ◌<◌, length, get_or}
+use Rattle.std.proofs.Common.{◌≡◌, ◌≢◌, ℕ, ◌/◌, ◌<◌, length, get_or}
+use Rattle.std.specs.Prelude.{All}
 use Rattle.cb_dcsc.specs.Columns.{row_value}
 use Rattle.cb_product.specs.SparseColumn.{rest_value, scaled}
 use Rattle.cb_product.specs.Marks.{IsAccumulator}
@@ -10,5 +11,6 @@ invariant-loop-n g l =
     record {
       long : length l.sums ≡ length l.fn.sums;
       accumulator : IsAccumulator s l.sums l.marks l.groups;
+      groups : (k : ℕ) → All (λ i. i / 4096 ≢ k) l.rows → get_or l.groups k 0 ≡ get_or l.fn.groups k 0;
       sums : (i : ℕ) → i < length l.sums → s.add (get_or l.sums i s.zero) (scaled s (rest_value s.zero l.rows l.values l.n i) l.scale) ≡ s.add (get_or l.fn.sums i s.zero) (scaled s (row_value s.zero l.rows l.values i) l.scale);
     }

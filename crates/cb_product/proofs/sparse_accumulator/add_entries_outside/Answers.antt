@@ -1,4 +1,4 @@
-use Rattle.std.proofs.Common.{◌≡◌, ◌<◌, true, false, length, sym, refl, ap, subst, ◌∙◌, arith, get_or}
+use Rattle.std.proofs.Common.{◌≡◌, ◌≢◌, ◌/◌, ◌<◌, true, false, length, sym, refl, ap, subst, ◌∙◌, arith, get_or}
 use Rattle.std.specs.Prelude.{◌==◌, not}
 use Rattle.std.proofs.lemmas.Bool.{eq-eqb, ne_eqb, false≢true}
 use Rattle.std.proofs.lemmas.List.{length-set, get_or_default}
@@ -11,7 +11,7 @@ use Rattle.cb_product.proofs.MarkedRows.{outside_added, outside_skipped, outside
 use Rattle.cb_product.proofs.sparse_accumulator.add_entries_outside.Goals as goal
 
 pub loop-n-init : goal.loop-n-init
-loop-n-init g c = record { long = refl; accumulator = c.requires.accumulator; sums = λ i l. refl }
+loop-n-init g c = record { long = refl; accumulator = c.requires.accumulator; groups = λ k free. refl; sums = λ i l. refl }
 
 pub is_marked-requires : goal.is_marked-requires
 is_marked-requires g c =
@@ -68,6 +68,7 @@ loop-n-preserved-then-is_marked g c =
     record {
       long = inv.long;
       accumulator = inv.accumulator;
+      groups = inv.groups;
       sums = outside_skipped g.S.Semiring.arithmetic g.met.S.Semiring.is_semiring c.args.rows.now c.args.values.now c.args.scale r.lengths r.values r.scale r.order (λ m. mark_of c.args.excluded.now m == 1) c.loop-n.n c.loop-n.sums _ c.loop-n-test.true taken inv.sums;
     }
 
@@ -93,6 +94,7 @@ loop-n-preserved g c =
         values = All-set (IsValue s) c.loop-n.sums _ _ (laws.add_value _ _ (All-get_or (IsValue s) c.loop-n.sums _ 0 lr inv.accumulator.values) product) inv.accumulator.values;
         marked = marked_more s.zero c.loop-n.sums c.loop-n.marks c.loop-n.groups _ _ (get_or rows n 0) _ inv.accumulator.marked lr c.mark_row.ensures.length c.mark_row.ensures.here c.mark_row.ensures.others c.mark_row.ensures.words c.mark_row.ensures.groups_length c.mark_row.ensures.group c.mark_row.ensures.other_groups;
       };
+      groups = λ j free. c.mark_row.ensures.group_words j (let ne = All-get_or (λ i. i / 4096 ≢ j) rows n 0 l free in λ e. ne (sym e)) ∙ inv.groups j free;
       sums = λ i li. outside_added s laws rows values k r.lengths r.values r.scale r.order (λ m. mark_of c.args.excluded.now m == 1) n c.loop-n.sums _ l free inv.accumulator.values lr inv.sums i (subst (λ m. i < m) (length-set c.loop-n.sums _ _) li);
     })
 

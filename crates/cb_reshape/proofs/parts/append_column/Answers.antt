@@ -1,56 +1,50 @@
-use Rattle.std.proofs.Common.{◌<◌, ◌+◌, ◌-◌, ap, ◌∙◌, arith, get_or, length, subst, sym}
-use Rattle.cb_matrix.specs.Sparse.{Extent, Sparse}
-use Rattle.cb_reshape.specs.Moving.{Fits}
+use Rattle.std.proofs.Common.{◌<◌, ◌≤◌, ◌+◌, ◌-◌, ◌^◌, ◌∙◌, take, drop, ap, arith}
+use Rattle.std.proofs.lemmas.List.Elements.{All-map}
 use Rattle.cb_dcsc.specs.Columns.{with_entries}
-use Rattle.cb_reshape.proofs.PartOfColumn.{taken_none, taken_more, taken_all, taken_before, old_before, stored_more, stored_none}
+use Rattle.cb_dcsc.specs.Compressed.{with_column}
+use Rattle.cb_reshape.proofs.PartOfColumn.{range_all, range_ascends, moved_ascend, column_moved, taken_all}
 use Rattle.cb_reshape.proofs.parts.append_column.Goals as goal
 
-pub loop-n-init : goal.loop-n-init
-loop-n-init g c =
-    record {
-      entries = stored_none c.args.out.now _ (taken_none c.args.part c.args.column c.args.rows.now c.args.values.now c.requires.lengths _ c.first_from-start.ensures.within c.first_from-start.ensures.below);
-      matrix = c.requires.matrix;
-    }
+pub fill_moved-requires-clause-above : goal.fill_moved-requires-clause-above
+fill_moved-requires-clause-above g c =
+    let r = c.range_within-start.ensures in
+    let within = r.within in
+    range_all (λ i. c.args.part.rows.0 ≤ i) c.args.rows.now c.range_within-start.result.0 c.range_within-start.result.1 r.order r.within (λ k a b. r.first k a (omega arith))
 
-pub push-requires-clause-order : goal.push-requires-clause-order
-push-requires-clause-order g c =
-    let within : c.loop-n.n < length c.args.rows.now = let t = c.loop-n-test.true in let w = c.first_from-end.ensures.within in omega arith in
-    old_before c.args.out.now c.loop-n.out _ (record { row = get_or c.args.rows.now c.loop-n.n 0 - c.args.part.rows.0 + c.args.part.corner.0; column = c.args.column - c.args.part.cols.0 + c.args.part.corner.1; value = get_or c.args.values.now c.loop-n.n 0 }) c.loop-n.invariant.entries c.requires.before
-    (taken_before c.args.part c.args.column c.args.rows.now c.args.values.now c.requires.lengths c.loop-n.n (get_or c.args.values.now c.loop-n.n 0) c.requires.order within)
+pub fill_moved-requires-clause-limit : goal.fill_moved-requires-clause-limit
+fill_moved-requires-clause-limit g c =
+    let r = c.range_within-start.ensures in
+    let within = r.within in
+    let fits = c.requires.fits in
+    let last = fits.last_row in
+    let limit = fits.limits.0 in
+    range_all (λ i. i - c.args.part.rows.0 + c.args.part.corner.0 < 2 ^ 32) c.args.rows.now c.range_within-start.result.0 c.range_within-start.result.1 r.order r.within (λ k a b. (let x = r.first k a (omega arith) in let y = r.last k b in omega arith))
 
-pub loop-n-preserved : goal.loop-n-preserved
-loop-n-preserved g c =
-    let within : c.loop-n.n < length c.args.rows.now = let t = c.loop-n-test.true in let w = c.first_from-end.ensures.within in omega arith in
-    let first = c.first_from-start.ensures.from c.loop-n.n c.loop-n.auto.n within in
-    let last = c.first_from-end.ensures.below c.loop-n.n c.loop-n-test.true in
-    record {
-      entries = stored_more c.args.out.now c.loop-n.out c.push.new.self _ _ _ c.loop-n.invariant.entries c.in_ok-push.ensures.ok (taken_more c.args.part c.args.column c.args.rows.now c.args.values.now c.requires.lengths c.loop-n.n within first last c.requires.column_start c.requires.column_end);
-      matrix = c.in_ok-push.ensures.matrix;
-    }
+pub push_column-requires-clause-ascending : goal.push_column-requires-clause-ascending
+push_column-requires-clause-ascending g c =
+    let r = c.range_within-start.ensures in
+    let within = r.within in
+    let above = range_all (λ i. c.args.part.rows.0 ≤ i) c.args.rows.now c.range_within-start.result.0 c.range_within-start.result.1 r.order r.within (λ k a b. r.first k a (omega arith)) in
+    rw (c.deref.ensures.value, c.in_ok-fill_moved.ensures) (moved_ascend _ c.args.part.rows.0 c.args.part.corner.0 above (range_ascends c.args.rows.now c.range_within-start.result.0 c.range_within-start.result.1 r.order r.within c.requires.order))
+
+pub push_column-requires-clause-rows : goal.push_column-requires-clause-rows
+push_column-requires-clause-rows g c =
+    let r = c.range_within-start.ensures in
+    let within = r.within in
+    let last = c.requires.fits.last_row in
+    let moved = range_all (λ i. i - c.args.part.rows.0 + c.args.part.corner.0 < c.args.out.now.shape.rows) c.args.rows.now c.range_within-start.result.0 c.range_within-start.result.1 r.order r.within (λ k a b. (let x = r.first k a (omega arith) in let y = r.last k b in omega arith)) in
+    rw (c.deref.ensures.value, c.in_ok-fill_moved.ensures) (All-map (λ i. i < c.args.out.now.shape.rows) (λ i. i - c.args.part.rows.0 + c.args.part.corner.0) _ moved)
 
 pub returns-clause-entries : goal.returns-clause-entries
 returns-clause-entries g c =
-    c.loop-n.invariant.entries
-    ∙ ap (with_entries c.args.out.now) (taken_all c.args.part c.args.column c.args.rows.now c.args.values.now c.requires.lengths c.loop-n.n (λ k m l. c.first_from-end.ensures.from k (let t = c.loop-n-test.false in omega arith) l))
-
-pub push-requires-clause-inside : goal.push-requires-clause-inside
-push-requires-clause-inside g c =
-    let within : c.loop-n.n < length c.args.rows.now = let t = c.loop-n-test.true in let w = c.first_from-end.ensures.within in omega arith in
-    let first = c.first_from-start.ensures.from c.loop-n.n c.loop-n.auto.n within in
-    let last = c.first_from-end.ensures.below c.loop-n.n c.loop-n-test.true in
-    let fits = subst (λ (e : Extent). Fits e c.args.part) (ap (λ (m : Sparse). m.shape) (sym c.loop-n.invariant.entries)) c.requires.fits in
-    let last_row = fits.last_row in
-    let last_column = fits.last_column in
-    let column_start = c.requires.column_start in
-    let column_end = c.requires.column_end in
-    (omega arith, omega arith)
-
-pub push-requires-clause-value : goal.push-requires-clause-value
-push-requires-clause-value g c =
-    let within : c.loop-n.n < length c.args.values.now = let t = c.loop-n-test.true in let w = c.first_from-end.ensures.within in let e = c.requires.lengths in omega arith in
-    c.requires.values c.loop-n.n 0 within
-
-pub push-requires-clause-not_zero : goal.push-requires-clause-not_zero
-push-requires-clause-not_zero g c =
-    let within : c.loop-n.n < length c.args.values.now = let t = c.loop-n-test.true in let w = c.first_from-end.ensures.within in let e = c.requires.lengths in omega arith in
-    c.requires.not_zero c.loop-n.n 0 within
+    let r = c.range_within-start.ensures in
+    let order = r.order in
+    let start = c.range_within-start.result.0 in
+    let end = c.range_within-start.result.1 in
+    let part = c.args.part in
+    let column = c.args.column in
+    let rows = c.args.rows.now in
+    let values = c.args.values.now in
+    c.in_ok-push_column.ensures.ok
+    ∙ ap (λ is. with_column c.args.out.now (column - part.cols.0 + part.corner.1) is (take (end - start) (drop start values))) (c.deref.ensures.value ∙ c.in_ok-fill_moved.ensures)
+    ∙ ap (with_entries c.args.out.now) (column_moved part column rows values c.requires.lengths start (end - start) end (omega arith) r.within r.before r.first r.last c.requires.column_start c.requires.column_end ∙ taken_all part column rows values c.requires.lengths end r.after)

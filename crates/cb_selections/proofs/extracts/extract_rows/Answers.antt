@@ -5,12 +5,11 @@ use Rattle.cb_selections.specs.Extracted.{rows_by}
 use Rattle.cb_selections.proofs.ListedRows.{all_listed}
 use Rattle.cb_selections.proofs.extracts.extract_rows.Goals as goal
 
-pub returns-then-counts_up : goal.returns-then-counts_up
-returns-then-counts_up g c =
+pub returns-then-are_all : goal.returns-then-are_all
+returns-then-are_all g c =
     let s = g.S.Semiring.arithmetic in
     let a = c.args.block.now in
     let rows = c.args.rows.now in
-    let height : c.rows-height.result ≡ a.shape.rows = c.rows-height.ensures.value ∙ ap (λ (x : Extent). x.rows) c.shape.ensures.shape in
-    let all : length rows ≡ a.shape.rows = c.if-rows-height.true ∙ height in
+    let all : length rows ≡ a.shape.rows = c.are_all.ensures.count c.if-are_all.true ∙ c.rows.ensures.value ∙ ap (λ (x : Extent). x.rows) c.shape.ensures.shape in
     IfOk-weaker c.try_clone.result (λ m. m ≡ a) (λ m. m ≡ rows_by s rows a)
-    (λ m is. is ∙ all_listed s a c.shape.ensures.matrix rows g.met.S.Semiring.is_semiring all (c.counts_up.ensures c.if-counts_up.true)) c.try_clone.ensures
+    (λ m is. is ∙ all_listed s a c.shape.ensures.matrix rows g.met.S.Semiring.is_semiring all (c.are_all.ensures.order c.if-are_all.true)) c.try_clone.ensures
