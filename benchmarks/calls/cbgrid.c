@@ -40,7 +40,7 @@ static void free_lists(Lists l) { free(l.start), free(l.column), free(l.row), fr
 static M* kept(u32 semiring, Places a) {
     Lists l = lists_of(a, semiring == CBGRID_OR_AND);
     M* made;
-    must(cbgrid_matrix_of_columns(semiring, &l.lists, &made));
+    must(cbgrid_matrix_of_columns(semiring, &l.lists, NULL, &made));
     free_lists(l);
     return made;
 }
@@ -161,9 +161,9 @@ static void shapes(const char* name, Places places) {
         for (size_t k = 0; k < count; k++) put(c, triples[k].row, triples[k].column, triples[k].value), );
     free(triples);
     Lists l = lists_of(places, false);
-    MADE("build from columns", name, "checks and copies", cbgrid_matrix_of_columns(CBGRID_PLUS_TIMES, &l.lists, &out));
+    MADE("build from columns", name, "checks and copies", cbgrid_matrix_of_columns(CBGRID_PLUS_TIMES, &l.lists, NULL, &out));
     MADE("build from columns, unchecked", name, "checks all the same",
-         cbgrid_matrix_of_columns(CBGRID_PLUS_TIMES, &l.lists, &out));
+         cbgrid_matrix_of_columns(CBGRID_PLUS_TIMES, &l.lists, NULL, &out));
     free_lists(l);
     struct cbgrid_columns lists;
     ROW("export to columns", name, "copies", 1, , must(cbgrid_matrix_columns(a, &lists)), put_columns(c, &lists),
@@ -171,12 +171,12 @@ static void shapes(const char* name, Places places) {
 
     if (!huge) {
         u32 *rows = drawn(n, n / 2, true, 30), *cols = drawn(n, n / 2, true, 31);
-        MADE("extract half, ascending", name, "", cbgrid_matrix_extract(a, rows, n / 2, cols, n / 2, &out));
+        MADE("extract half, ascending", name, "", cbgrid_matrix_extract(a, rows, n / 2, cols, n / 2, NULL, &out));
         free(rows), free(cols);
         rows = drawn(n, n / 2, false, 30), cols = drawn(n, n / 2, false, 31);
-        MADE("extract half, shuffled", name, "", cbgrid_matrix_extract(a, rows, n / 2, cols, n / 2, &out));
+        MADE("extract half, shuffled", name, "", cbgrid_matrix_extract(a, rows, n / 2, cols, n / 2, NULL, &out));
         for (u64 v = 0; v < n; v++) rows[v] = v;
-        MADE("extract 100 columns", name, "all rows named", cbgrid_matrix_extract(a, rows, n, cols, 100, &out));
+        MADE("extract 100 columns", name, "all rows named", cbgrid_matrix_extract(a, rows, n, cols, 100, NULL, &out));
         free(rows), free(cols);
         MADE("part (half of each side)", name, "", cbgrid_matrix_part(a, n / 4, n / 4 * 3, n / 4, n / 4 * 3, &out));
         M* block;
@@ -201,7 +201,7 @@ static void builds(World* w) {
             triples[i] = (struct cbgrid_triple){row_of(w->triples[k][i]), col_of(w->triples[k][i]), 1 + i % 100};
         u64 n = w->triple_side[k];
         MADE("build from triples", names[k], "",
-             cbgrid_matrix_of_triples(CBGRID_PLUS_TIMES, n, n, triples, w->triple_count, &out));
+             cbgrid_matrix_of_triples(CBGRID_PLUS_TIMES, n, n, triples, w->triple_count, NULL, &out));
         free(triples);
     }
 }

@@ -111,17 +111,24 @@ static int hand(uint32_t code, struct owned made, struct cbgrid_matrix **out) {
     return (int)code;
 }
 
-int cbgrid_matrix_of_columns(uint32_t semiring, lent lists, struct cbgrid_matrix **out) {
+/* Whether a fault is about one entry, row, column or source of a list. */
+static int is_of_one(uint32_t code) {
+    return code == CBGRID_ORDER || code == CBGRID_PLACE || code == CBGRID_VALUE || code == CBGRID_SOURCE;
+}
+
+int cbgrid_matrix_of_columns(uint32_t semiring, lent lists, uint64_t *at, struct cbgrid_matrix **out) {
     struct cbgrid_columns columns;
     struct owned made = {NULL};
     if (!out || !lend(&columns, lists)) return CBGRID_NULL_POINTER;
-    return hand(cbgrid_kernel_keep(semiring, &columns, &made), made, out);
+    uint32_t code = cbgrid_kernel_keep(semiring, &columns, &made);
+    if (at && is_of_one(code)) *at = cbgrid_kernel_misfit_of_lists(semiring, &columns);
+    return hand(code, made, out);
 }
 
-int cbgrid_matrix_of_rows(uint32_t semiring, lent rows, struct cbgrid_matrix **out) {
+int cbgrid_matrix_of_rows(uint32_t semiring, lent rows, uint64_t *at, struct cbgrid_matrix **out) {
     struct cbgrid_matrix *turned, *made;
     if (!out) return CBGRID_NULL_POINTER;
-    int code = cbgrid_matrix_of_columns(semiring, rows, &turned);
+    int code = cbgrid_matrix_of_columns(semiring, rows, at, &turned);
     if (code) return code;
     code = cbgrid_matrix_transpose(turned, &made);
     cbgrid_matrix_free(turned);
@@ -130,11 +137,13 @@ int cbgrid_matrix_of_rows(uint32_t semiring, lent rows, struct cbgrid_matrix **o
 }
 
 int cbgrid_matrix_of_triples(uint32_t semiring, uint32_t nrows, uint32_t ncols, const struct cbgrid_triple *triples,
-                             size_t len, struct cbgrid_matrix **out) {
+                             size_t len, uint64_t *at, struct cbgrid_matrix **out) {
     static const struct cbgrid_triple none = {0, 0, 0};
     struct owned made = {NULL};
     if (!out || (len && !triples)) return CBGRID_NULL_POINTER;
-    return hand(cbgrid_kernel_keep_triples(semiring, nrows, ncols, len ? triples : &none, len, &made), made, out);
+    uint32_t code = cbgrid_kernel_keep_triples(semiring, nrows, ncols, len ? triples : &none, len, &made);
+    if (at && is_of_one(code)) *at = cbgrid_kernel_misfit_of_triples(semiring, nrows, ncols, triples, len);
+    return hand(code, made, out);
 }
 
 int cbgrid_matrix_columns(const struct cbgrid_matrix *a, struct cbgrid_columns *out) {
@@ -209,21 +218,6 @@ int cbgrid_matrix_row_sums(const struct cbgrid_matrix *a, struct cbgrid_matrix *
     return hand(cbgrid_kernel_kept_row_sums((kept){a}, &made), made, out);
 }
 
-int cbgrid_matrix_select(const struct cbgrid_matrix *a, uint32_t region, int64_t diagonal, struct cbgrid_matrix **out) {
-    struct owned made = {NULL};
-    if (!a || !out) return CBGRID_NULL_POINTER;
-    /* Diagonal k goes through (0, k) or (-k, 0). No matrix has a place on diagonal CBGRID_LIMIT or beyond. */
-    int64_t limit = CBGRID_LIMIT, k = diagonal > limit ? limit : diagonal < -limit ? -limit : diagonal;
-    uint32_t row = k < 0 ? (uint32_t)-k : 0, column = k > 0 ? (uint32_t)k : 0;
-    return hand(cbgrid_kernel_kept_select((kept){a}, region, row, column, &made), made, out);
-}
-
-int cbgrid_matrix_apply(const struct cbgrid_matrix *a, uint32_t function, uint64_t number, struct cbgrid_matrix **out) {
-    struct owned made = {NULL};
-    if (!a || !out) return CBGRID_NULL_POINTER;
-    return hand(cbgrid_kernel_kept_apply((kept){a}, function, number, &made), made, out);
-}
-
 int cbgrid_matrix_diagonal(const struct cbgrid_matrix *a, struct cbgrid_matrix **out) {
     struct owned made = {NULL};
     if (!a || !out) return CBGRID_NULL_POINTER;
@@ -244,12 +238,17 @@ int cbgrid_matrix_part(const struct cbgrid_matrix *a, uint32_t row, uint32_t row
 }
 
 int cbgrid_matrix_extract(const struct cbgrid_matrix *a, const uint32_t *rows, size_t row_count,
-                          const uint32_t *columns, size_t column_count, struct cbgrid_matrix **out) {
+                          const uint32_t *columns, size_t column_count, uint64_t *at, struct cbgrid_matrix **out) {
     struct owned made = {NULL};
     if (!a || !out || (row_count && !rows) || (column_count && !columns)) return CBGRID_NULL_POINTER;
     if (!row_count) rows = NOTHING32;
     if (!column_count) columns = NOTHING32;
-    return hand(cbgrid_kernel_kept_extract((kept){a}, rows, row_count, columns, column_count, &made), made, out);
+    uint32_t code = cbgrid_kernel_kept_extract((kept){a}, rows, row_count, columns, column_count, &made);
+    if (at && is_of_one(code)) {
+        *at = cbgrid_kernel_first_outside(rows, row_count, cbgrid_matrix_nrows(a));
+        if (*at == row_count) *at += cbgrid_kernel_first_outside(columns, column_count, cbgrid_matrix_ncols(a));
+    }
+    return hand(code, made, out);
 }
 
 int cbgrid_matrix_kron(const struct cbgrid_matrix *a, const struct cbgrid_matrix *b, struct cbgrid_matrix **out) {
@@ -263,20 +262,6 @@ int cbgrid_matrix_assign(const struct cbgrid_matrix *a, uint32_t row, uint32_t c
     struct owned made = {NULL};
     if (!a || !part || !out) return CBGRID_NULL_POINTER;
     return hand(cbgrid_kernel_kept_assign((kept){a}, row, column, (kept){part}, &made), made, out);
-}
-
-int cbgrid_matrix_exclude(const struct cbgrid_matrix *a, const struct cbgrid_matrix *mask, struct cbgrid_matrix **out) {
-    struct owned made = {NULL};
-    if (!a || !mask || !out) return CBGRID_NULL_POINTER;
-    return hand(cbgrid_kernel_kept_exclude((kept){a}, (kept){mask}, &made), made, out);
-}
-
-int cbgrid_matrix_update(const struct cbgrid_matrix *a, const struct cbgrid_matrix *b, const struct cbgrid_matrix *mask,
-                         uint32_t flags, struct cbgrid_matrix **out) {
-    struct owned made = {NULL};
-    if (!a || !b || !out) return CBGRID_NULL_POINTER;
-    if (!mask) return hand(cbgrid_kernel_kept_update((kept){a}, (kept){b}, flags, &made), made, out);
-    return hand(cbgrid_kernel_kept_update_masked((kept){a}, (kept){b}, (kept){mask}, flags, &made), made, out);
 }
 
 int cbgrid_matrix_power(const struct cbgrid_matrix *a, uint32_t factors, struct cbgrid_matrix **out) {
@@ -315,20 +300,24 @@ int cbgrid_matrix_distances(const struct cbgrid_matrix *a, uint32_t source, stru
     return hand(cbgrid_kernel_kept_distances((kept){a}, source, &made), made, out);
 }
 
-int cbgrid_matrix_levels_from(const struct cbgrid_matrix *a, const uint32_t *sources, size_t count,
+int cbgrid_matrix_levels_from(const struct cbgrid_matrix *a, const uint32_t *sources, size_t count, uint64_t *at,
                               struct cbgrid_matrix **out) {
     struct owned made = {NULL};
     if (!a || !out || (count && !sources)) return CBGRID_NULL_POINTER;
     if (!count) sources = NOTHING32;
-    return hand(cbgrid_kernel_kept_levels_from((kept){a}, sources, count, &made), made, out);
+    uint32_t code = cbgrid_kernel_kept_levels_from((kept){a}, sources, count, &made);
+    if (at && is_of_one(code)) *at = cbgrid_kernel_first_outside(sources, count, cbgrid_matrix_nrows(a));
+    return hand(code, made, out);
 }
 
-int cbgrid_matrix_distances_from(const struct cbgrid_matrix *a, const uint32_t *sources, size_t count,
+int cbgrid_matrix_distances_from(const struct cbgrid_matrix *a, const uint32_t *sources, size_t count, uint64_t *at,
                                  struct cbgrid_matrix **out) {
     struct owned made = {NULL};
     if (!a || !out || (count && !sources)) return CBGRID_NULL_POINTER;
     if (!count) sources = NOTHING32;
-    return hand(cbgrid_kernel_kept_distances_from((kept){a}, sources, count, &made), made, out);
+    uint32_t code = cbgrid_kernel_kept_distances_from((kept){a}, sources, count, &made);
+    if (at && is_of_one(code)) *at = cbgrid_kernel_first_outside(sources, count, cbgrid_matrix_nrows(a));
+    return hand(code, made, out);
 }
 
 int cbgrid_matrix_levels_given(const struct cbgrid_matrix *a, const struct cbgrid_matrix *given,
@@ -399,11 +388,12 @@ void cbgrid_threads(uint32_t count) {
     thread_count = count < 1 ? 1 : count < CBGRID_MOST_THREADS ? count : CBGRID_MOST_THREADS;
 }
 
-/* A call: its operands, and the three of the library. */
+/* A call: its operands, what else it takes, and the three of the library. */
 struct call {
     kept a, b, mask;
-    uint32_t test;
-    uint64_t bound;
+    uint32_t choice; /* a test, a region, a function or flags */
+    uint64_t number;
+    uint32_t row, column;
     uint32_t (*whole)(const struct call *it, struct owned *made);
     uint32_t (*ends)(const struct call *it, uint32_t *ends, size_t count);
     uint32_t (*columns)(const struct call *it, uint32_t first, uint32_t end, struct owned *made);
@@ -465,9 +455,14 @@ static uint32_t by_threads(const struct call *it, uint32_t threads, struct owned
     return join_ranges(ranges, used, made);
 }
 
-/* The ranges of an operation's columns have about as many entries of its operands. */
+/* The ranges of a call's columns have about as many entries of its operands: of three, of the two that have the most. */
 static uint32_t ends_by_entries(const struct call *it, uint32_t *ends, size_t count) {
-    return cbgrid_kernel_kept_entry_ends(it->a, it->b.at ? it->b : it->a, ends, count);
+    kept a = it->a, b = it->b.at ? it->b : it->a, mask = it->mask;
+    uint64_t in_a = cbgrid_matrix_entries(a.at), in_b = cbgrid_matrix_entries(b.at);
+    uint64_t in_mask = cbgrid_matrix_entries(mask.at);
+    if (in_mask > in_a && in_a <= in_b) a = mask;
+    else if (in_mask > in_b) b = mask;
+    return cbgrid_kernel_kept_entry_ends(a, b, ends, count);
 }
 
 static uint32_t sum(const struct call *it, struct owned *made) {
@@ -499,17 +494,81 @@ int cbgrid_matrix_times(const struct cbgrid_matrix *a, const struct cbgrid_matri
 }
 
 static uint32_t pruned(const struct call *it, struct owned *made) {
-    return cbgrid_kernel_kept_prune(it->a, it->test, it->bound, made);
+    return cbgrid_kernel_kept_prune(it->a, it->choice, it->number, made);
 }
 static uint32_t pruned_columns(const struct call *it, uint32_t first, uint32_t end, struct owned *made) {
-    return cbgrid_kernel_kept_prune_columns(it->a, it->test, it->bound, first, end, made);
+    return cbgrid_kernel_kept_prune_columns(it->a, it->choice, it->number, first, end, made);
 }
 
 int cbgrid_matrix_prune(const struct cbgrid_matrix *a, uint32_t test, uint64_t bound, struct cbgrid_matrix **out) {
-    struct call it = {.a = {a}, .test = test, .bound = bound,
+    struct call it = {.a = {a}, .choice = test, .number = bound,
                       .whole = pruned, .ends = ends_by_entries, .columns = pruned_columns};
     struct owned made = {NULL};
     if (!a || !out) return CBGRID_NULL_POINTER;
+    return hand(by_threads(&it, thread_count, &made), made, out);
+}
+
+static uint32_t selected(const struct call *it, struct owned *made) {
+    return cbgrid_kernel_kept_select(it->a, it->choice, it->row, it->column, made);
+}
+static uint32_t selected_columns(const struct call *it, uint32_t first, uint32_t end, struct owned *made) {
+    return cbgrid_kernel_kept_select_columns(it->a, it->choice, it->row, it->column, first, end, made);
+}
+
+int cbgrid_matrix_select(const struct cbgrid_matrix *a, uint32_t region, int64_t diagonal, struct cbgrid_matrix **out) {
+    struct call it = {.a = {a}, .choice = region, .whole = selected, .ends = ends_by_entries, .columns = selected_columns};
+    struct owned made = {NULL};
+    if (!a || !out) return CBGRID_NULL_POINTER;
+    /* Diagonal k goes through (0, k) or (-k, 0). No matrix has a place on diagonal CBGRID_LIMIT or beyond. */
+    int64_t limit = CBGRID_LIMIT, k = diagonal > limit ? limit : diagonal < -limit ? -limit : diagonal;
+    it.row = k < 0 ? (uint32_t)-k : 0, it.column = k > 0 ? (uint32_t)k : 0;
+    return hand(by_threads(&it, thread_count, &made), made, out);
+}
+
+static uint32_t applied(const struct call *it, struct owned *made) {
+    return cbgrid_kernel_kept_apply(it->a, it->choice, it->number, made);
+}
+static uint32_t applied_columns(const struct call *it, uint32_t first, uint32_t end, struct owned *made) {
+    return cbgrid_kernel_kept_apply_columns(it->a, it->choice, it->number, first, end, made);
+}
+
+int cbgrid_matrix_apply(const struct cbgrid_matrix *a, uint32_t function, uint64_t number, struct cbgrid_matrix **out) {
+    struct call it = {.a = {a}, .choice = function, .number = number,
+                      .whole = applied, .ends = ends_by_entries, .columns = applied_columns};
+    struct owned made = {NULL};
+    if (!a || !out) return CBGRID_NULL_POINTER;
+    return hand(by_threads(&it, thread_count, &made), made, out);
+}
+
+static uint32_t excluded(const struct call *it, struct owned *made) {
+    return cbgrid_kernel_kept_exclude(it->a, it->b, made);
+}
+static uint32_t excluded_columns(const struct call *it, uint32_t first, uint32_t end, struct owned *made) {
+    return cbgrid_kernel_kept_exclude_columns(it->a, it->b, first, end, made);
+}
+
+int cbgrid_matrix_exclude(const struct cbgrid_matrix *a, const struct cbgrid_matrix *mask, struct cbgrid_matrix **out) {
+    struct call it = {.a = {a}, .b = {mask}, .whole = excluded, .ends = ends_by_entries, .columns = excluded_columns};
+    struct owned made = {NULL};
+    if (!a || !mask || !out) return CBGRID_NULL_POINTER;
+    return hand(by_threads(&it, thread_count, &made), made, out);
+}
+
+static uint32_t updated(const struct call *it, struct owned *made) {
+    if (!it->mask.at) return cbgrid_kernel_kept_update(it->a, it->b, it->choice, made);
+    return cbgrid_kernel_kept_update_masked(it->a, it->b, it->mask, it->choice, made);
+}
+static uint32_t updated_columns(const struct call *it, uint32_t first, uint32_t end, struct owned *made) {
+    if (!it->mask.at) return cbgrid_kernel_kept_update_columns(it->a, it->b, it->choice, first, end, made);
+    return cbgrid_kernel_kept_update_masked_columns(it->a, it->b, it->mask, it->choice, first, end, made);
+}
+
+int cbgrid_matrix_update(const struct cbgrid_matrix *a, const struct cbgrid_matrix *b, const struct cbgrid_matrix *mask,
+                         uint32_t flags, struct cbgrid_matrix **out) {
+    struct call it = {.a = {a}, .b = {b}, .mask = {mask}, .choice = flags,
+                      .whole = updated, .ends = ends_by_entries, .columns = updated_columns};
+    struct owned made = {NULL};
+    if (!a || !b || !out) return CBGRID_NULL_POINTER;
     return hand(by_threads(&it, thread_count, &made), made, out);
 }
 

@@ -9,7 +9,7 @@
  *     uint64_t values[] = {1, 2, 3};
  *     struct cbgrid_columns lists = cbgrid_csc32(2, 2, starts, rows, values, 3);
  *     struct cbgrid_matrix *a = NULL, *square = NULL;
- *     int code = cbgrid_matrix_of_columns(CBGRID_PLUS_TIMES, &lists, &a);
+ *     int code = cbgrid_matrix_of_columns(CBGRID_PLUS_TIMES, &lists, NULL, &a);
  *     if (!code) code = cbgrid_matrix_multiply(a, a, NULL, &square);
  *     if (code) fprintf(stderr, "%s\n", cbgrid_message(code));
  *     ..
@@ -27,6 +27,9 @@
  *
  * Each call may return CBGRID_NULL_POINTER and, if it makes something, CBGRID_MEMORY; CBGRID_SEMIRING if it takes a semiring;
  * and CBGRID_MIXED if it takes several matrices and they are over different semirings. The comments name the other codes.
+ *
+ * A call that takes `at` writes to it at CBGRID_ORDER, CBGRID_PLACE, CBGRID_VALUE and CBGRID_SOURCE, and only then, which
+ * element of a list the code is about, unless `at` is a null pointer.
  *
  * Memory. A matrix that a call writes to `out` is new and yours; free it with cbgrid_matrix_free. Lists and texts are
  * malloc'ed; free them with cbgrid_free_columns and cbgrid_free_text. A call only writes to `out`: if `out` still holds a
@@ -69,9 +72,10 @@ extern "C" {
 /* The most threads that one call uses. */
 #define CBGRID_MOST_THREADS 256u
 
-/* Sets how many threads each call may use from now on, the caller's among them: at first 1, at most CBGRID_MOST_THREADS; 0 is 1.
- * Products, sums and products element-wise, prunes and column sums use them, as far as each thread gets enough to do; the others
- * use the caller's. The library starts threads when it first needs them, and they sleep between calls. */
+/* Sets how many threads each call may use from now on, the caller's among them: at first 1, at most CBGRID_MOST_THREADS; 0 is
+ * 1. Products, sums and products element-wise, prunes, column sums, cbgrid_matrix_select, _apply, _exclude and _update use
+ * them, as far as each thread gets enough to do; the others use the caller's. The library starts threads when it first needs
+ * them, and they sleep between calls. */
 void cbgrid_threads(uint32_t count);
 
 /*
@@ -250,20 +254,25 @@ struct cbgrid_triple {
     uint64_t value;
 };
 
-/* Makes a matrix of lists, over a semiring. Copies the lists once; they stay yours. CBGRID_FORM to CBGRID_VALUE. Costs a walk
- * over the entries and the stored columns (in CSC all columns). */
-int cbgrid_matrix_of_columns(uint32_t semiring, const struct cbgrid_columns *lists, struct cbgrid_matrix **out);
+/* Makes a matrix of lists, over a semiring. Copies the lists once; they stay yours. CBGRID_FORM to CBGRID_VALUE. At
+ * CBGRID_ORDER, CBGRID_PLACE or CBGRID_VALUE the call writes to `at` what the code is about: the nth entry (n), or the kth
+ * stored column (rows_len + k). For CBGRID_ORDER it is the first column that ends before it starts or isn't after the column
+ * before it, or, if there is none, the first entry whose row isn't after that of the entry before it; for CBGRID_PLACE the
+ * first column that is outside the shape, or else the first entry; for CBGRID_VALUE the first entry. Costs a walk over the
+ * entries and the stored columns (in CSC all columns). */
+int cbgrid_matrix_of_columns(uint32_t semiring, const struct cbgrid_columns *lists, uint64_t *at, struct cbgrid_matrix **out);
 
 /* The same from compressed rows (CSR, or doubly compressed). `rows` has the lists of the transpose: its nrows is the
  * number of columns of the matrix, its columns are the stored rows, and its rows are the columns of the entries.
  * Also costs a transpose. */
-int cbgrid_matrix_of_rows(uint32_t semiring, const struct cbgrid_columns *rows, struct cbgrid_matrix **out);
+int cbgrid_matrix_of_rows(uint32_t semiring, const struct cbgrid_columns *rows, uint64_t *at, struct cbgrid_matrix **out);
 
 /* Makes a matrix of `len` triples, in any order. Values at one place are added up in the semiring, and a sum that is zero
- * isn't stored. CBGRID_TOO_LARGE, CBGRID_PLACE, CBGRID_VALUE. With a length of 0, `triples` may be a null pointer. Costs a sort of the triples, or one walk if they ascend by column and then
- * by row. */
+ * isn't stored. CBGRID_TOO_LARGE; CBGRID_PLACE and CBGRID_VALUE, where the call writes to `at` which triple is the first that
+ * is outside the shape or has no value of the semiring. With a length of 0, `triples` may be a null pointer. Costs a sort of
+ * the triples, or one walk if they ascend by column and then by row. */
 int cbgrid_matrix_of_triples(uint32_t semiring, uint32_t nrows, uint32_t ncols, const struct cbgrid_triple *triples,
-                             size_t len, struct cbgrid_matrix **out);
+                             size_t len, uint64_t *at, struct cbgrid_matrix **out);
 
 /* Copy the lists of a matrix: its compressed columns, or its compressed rows, which are the compressed columns of the
  * transpose. Free them with cbgrid_free_columns. cbgrid_matrix_rows also costs a transpose. */
@@ -371,12 +380,13 @@ int cbgrid_matrix_part(const struct cbgrid_matrix *a, uint32_t row, uint32_t row
                        uint32_t column_end, struct cbgrid_matrix **out);
 
 /* Makes the matrix whose row i and column j are row rows[i] and column columns[j] of a, in any order, with repetitions.
- * CBGRID_TOO_LARGE if a list has more than CBGRID_LIMIT elements, then CBGRID_PLACE if a doesn't have such a row or
- * column. A list of length 0 may be a null pointer. Costs a binary search for each column, the elements of `rows`, and
- * the entries of these columns. If the rows don't ascend, or if a has more than four rows for each of them and for each of
- * these entries, it also costs a binary search for each row, and two transposes. */
+ * CBGRID_TOO_LARGE if a list has more than CBGRID_LIMIT elements, then CBGRID_PLACE if a doesn't have such a row or column:
+ * then the call writes to `at` where the first one is, n for rows[n], or row_count + n for columns[n]. A list of length 0 may
+ * be a null pointer. Costs a binary search for each column, the elements of `rows`, and the entries of these columns. If the
+ * rows don't ascend, or if a has more than four rows for each of them and for each of these entries, it also costs a binary
+ * search for each row, and two transposes. */
 int cbgrid_matrix_extract(const struct cbgrid_matrix *a, const uint32_t *rows, size_t row_count,
-                          const uint32_t *columns, size_t column_count, struct cbgrid_matrix **out);
+                          const uint32_t *columns, size_t column_count, uint64_t *at, struct cbgrid_matrix **out);
 
 /* Makes the Kronecker product: each value of a is replaced by its products with all of b. CBGRID_TOO_LARGE if the result has
  * more than CBGRID_LIMIT rows or columns. Costs the entries of a times those of b. */
@@ -441,11 +451,11 @@ int cbgrid_matrix_distances(const struct cbgrid_matrix *a, uint32_t source, stru
 
 /* The same from each of `count` sources, in any order, with repetitions: column j of the result is that of sources[j].
  * CBGRID_MIXED, then CBGRID_NOT_SQUARE, then CBGRID_TOO_LARGE if there are more than CBGRID_LIMIT sources, then
- * CBGRID_SOURCE if one of them isn't a vertex. With a count of 0, `sources` may be a null pointer.
- * Transposes the graph once for all sources, and then searches from each. */
-int cbgrid_matrix_levels_from(const struct cbgrid_matrix *a, const uint32_t *sources, size_t count,
+ * CBGRID_SOURCE if one of them isn't a vertex: then the call writes to `at` which of them is the first. With a count of 0,
+ * `sources` may be a null pointer. Transposes the graph once for all sources, and then searches from each. */
+int cbgrid_matrix_levels_from(const struct cbgrid_matrix *a, const uint32_t *sources, size_t count, uint64_t *at,
                               struct cbgrid_matrix **out);
-int cbgrid_matrix_distances_from(const struct cbgrid_matrix *a, const uint32_t *sources, size_t count,
+int cbgrid_matrix_distances_from(const struct cbgrid_matrix *a, const uint32_t *sources, size_t count, uint64_t *at,
                                  struct cbgrid_matrix **out);
 
 /* The same from initial values: `given` is a column over MIN_PLUS, and its entry in row u is the initial value of vertex

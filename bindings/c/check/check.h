@@ -87,6 +87,7 @@ int is_same(const struct cbgrid_matrix *a, const struct cbgrid_matrix *b);
 void test_codes(void);
 void test_kept_codes(void);
 void test_limits(void);
+void test_misfits(void);
 void test_columns(void);
 void test_operations(int is_few);
 void test_products(int is_few);

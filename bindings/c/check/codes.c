@@ -13,8 +13,8 @@ static struct cbgrid_columns good(void) {
 /* Expects `code` from each call that makes a matrix of `bad`. */
 static void expect_of_all(struct cbgrid_columns bad, int code, const char *what) {
     struct cbgrid_matrix *made = NULL;
-    int of_columns = cbgrid_matrix_of_columns(CBGRID_OR_AND, &bad, &made);
-    int of_rows = cbgrid_matrix_of_rows(CBGRID_OR_AND, &bad, &made);
+    int of_columns = cbgrid_matrix_of_columns(CBGRID_OR_AND, &bad, NULL, &made);
+    int of_rows = cbgrid_matrix_of_rows(CBGRID_OR_AND, &bad, NULL, &made);
     expect(of_columns == code && of_rows == code, what, __FILE__, __LINE__);
     if (of_columns != code || of_rows != code) fprintf(stderr, "  %d and %d, not %d\n", of_columns, of_rows, code);
     EXPECT(!made);
@@ -62,9 +62,9 @@ static void test_codes_of_semirings(void) {
     uint64_t line = 77;
     bad.kind = 2;
     for (uint32_t s = SEMIRINGS; s < SEMIRINGS + 5; s++) {
-        EXPECT(cbgrid_matrix_of_columns(s, &bad, &made) == CBGRID_SEMIRING);
-        EXPECT(cbgrid_matrix_of_rows(s, &bad, &made) == CBGRID_SEMIRING);
-        EXPECT(cbgrid_matrix_of_triples(s, UINT32_MAX, 1, &outside, 1, &made) == CBGRID_SEMIRING);
+        EXPECT(cbgrid_matrix_of_columns(s, &bad, NULL, &made) == CBGRID_SEMIRING);
+        EXPECT(cbgrid_matrix_of_rows(s, &bad, NULL, &made) == CBGRID_SEMIRING);
+        EXPECT(cbgrid_matrix_of_triples(s, UINT32_MAX, 1, &outside, 1, NULL, &made) == CBGRID_SEMIRING);
         EXPECT(cbgrid_matrix_read(s, "", 0, &line, &made) == CBGRID_SEMIRING);
     }
     EXPECT(line == 77 && !made);
@@ -109,12 +109,12 @@ static void test_null_pointers(void) {
     struct cbgrid_columns a = good();
     struct cbgrid_matrix *made = NULL;
     uint64_t line = 77;
-    EXPECT(cbgrid_matrix_of_columns(0, NULL, &made) == CBGRID_NULL_POINTER);
-    EXPECT(cbgrid_matrix_of_columns(0, &a, NULL) == CBGRID_NULL_POINTER);
-    EXPECT(cbgrid_matrix_of_rows(0, NULL, &made) == CBGRID_NULL_POINTER);
-    EXPECT(cbgrid_matrix_of_rows(0, &a, NULL) == CBGRID_NULL_POINTER);
-    EXPECT(cbgrid_matrix_of_triples(0, 2, 3, NULL, 1, &made) == CBGRID_NULL_POINTER);
-    EXPECT(cbgrid_matrix_of_triples(0, 2, 3, NULL, 0, NULL) == CBGRID_NULL_POINTER);
+    EXPECT(cbgrid_matrix_of_columns(0, NULL, NULL, &made) == CBGRID_NULL_POINTER);
+    EXPECT(cbgrid_matrix_of_columns(0, &a, NULL, NULL) == CBGRID_NULL_POINTER);
+    EXPECT(cbgrid_matrix_of_rows(0, NULL, NULL, &made) == CBGRID_NULL_POINTER);
+    EXPECT(cbgrid_matrix_of_rows(0, &a, NULL, NULL) == CBGRID_NULL_POINTER);
+    EXPECT(cbgrid_matrix_of_triples(0, 2, 3, NULL, 1, NULL, &made) == CBGRID_NULL_POINTER);
+    EXPECT(cbgrid_matrix_of_triples(0, 2, 3, NULL, 0, NULL, NULL) == CBGRID_NULL_POINTER);
     EXPECT(cbgrid_matrix_read(0, NULL, 1, &line, &made) == CBGRID_NULL_POINTER);
     EXPECT(cbgrid_matrix_read(0, NULL, 0, &line, NULL) == CBGRID_NULL_POINTER && line == 77);
     EXPECT(cbgrid_matrix_read(0, NULL, 0, &line, &made) == CBGRID_FORMAT && line == 1);
@@ -136,7 +136,7 @@ static void test_null_lists(void) {
     /* Lists that a call ignores may be anything. */
     struct cbgrid_columns odd = good();
     odd.columns = NULL, odd.columns_len = 5, odd.starts64 = NULL, odd.starts64_len = 9;
-    EXPECT(cbgrid_matrix_of_columns(0, &odd, &a) == CBGRID_OK && cbgrid_matrix_entries(a) == 3);
+    EXPECT(cbgrid_matrix_of_columns(0, &odd, NULL, &a) == CBGRID_OK && cbgrid_matrix_entries(a) == 3);
     cbgrid_matrix_free(a);
 
     /* Empty lists may be null pointers. */
@@ -146,13 +146,13 @@ static void test_null_lists(void) {
     };
     struct dense zeros = blank(0, 6, 5);
     for (int n = 0; n < 2; n++) {
-        EXPECT(cbgrid_matrix_of_columns(0, &none[n], &a) == CBGRID_OK && cbgrid_matrix_columns(a, &made) == CBGRID_OK);
+        EXPECT(cbgrid_matrix_of_columns(0, &none[n], NULL, &a) == CBGRID_OK && cbgrid_matrix_columns(a, &made) == CBGRID_OK);
         EXPECT(is_dense(0, &made, &zeros));
         cbgrid_free_columns(&made);
         cbgrid_matrix_free(a);
     }
     bad = cbgrid_csc32(5, 0, starts, NULL, NULL, 0);
-    EXPECT(cbgrid_matrix_of_rows(0, &bad, &a) == CBGRID_OK && cbgrid_matrix_nrows(a) == 0 && cbgrid_matrix_ncols(a) == 5);
+    EXPECT(cbgrid_matrix_of_rows(0, &bad, NULL, &a) == CBGRID_OK && cbgrid_matrix_nrows(a) == 0 && cbgrid_matrix_ncols(a) == 5);
     cbgrid_matrix_free(a);
     EXPECT(live == 0);
 }

@@ -30,7 +30,7 @@ static struct cbgrid_matrix *kept_of(uint32_t semiring, uint32_t nrows, uint32_t
     static struct cbgrid_triple triples[COUNT];
     struct cbgrid_matrix *made = NULL;
     for (uint32_t n = 0; n < count; n++) triples[n] = nth(n);
-    EXPECT(cbgrid_matrix_of_triples(semiring, nrows, ncols, triples, count, &made) == CBGRID_OK);
+    EXPECT(cbgrid_matrix_of_triples(semiring, nrows, ncols, triples, count, NULL, &made) == CBGRID_OK);
     return made;
 }
 
@@ -68,7 +68,7 @@ static void test_long_columns(void) {
     COLUMN(cbgrid_matrix_select(x, CBGRID_LOWER, 0, &made), in_column);
     COLUMN(cbgrid_matrix_apply(x, CBGRID_SUM, 1, &made), next_in_column);
     COLUMN(cbgrid_matrix_part(x, 0, COUNT, 0, 1, &made), in_column);
-    COLUMN(cbgrid_matrix_extract(x, all, COUNT, zero, 1, &made), in_column);
+    COLUMN(cbgrid_matrix_extract(x, all, COUNT, zero, 1, NULL, &made), in_column);
     COLUMN(cbgrid_matrix_kron(x, one, &made), in_column);
     COLUMN(cbgrid_matrix_kron(one, x, &made), in_column);
     COLUMN(cbgrid_matrix_assign(none, 0, 0, x, &made), in_column);
@@ -85,7 +85,7 @@ static void test_long_columns(void) {
     MAKES(cbgrid_matrix_column_sums(d, &made), 0, 1, COUNT, in_row, COUNT);
     MAKES(cbgrid_matrix_power(d, 1, &made), 0, COUNT, COUNT, on_diagonal, COUNT);
     MAKES(cbgrid_matrix_diagonal_matrix(x, &made), 0, COUNT, COUNT, on_diagonal, COUNT);
-    MAKES(cbgrid_matrix_extract(d, back, COUNT, back, COUNT, &made), 0, COUNT, COUNT, back_on_diagonal, COUNT);
+    MAKES(cbgrid_matrix_extract(d, back, COUNT, back, COUNT, NULL, &made), 0, COUNT, COUNT, back_on_diagonal, COUNT);
     EXPECT(cbgrid_matrix_reduce_all(x, &total) == CBGRID_OK && total == (uint64_t)COUNT * (COUNT + 1) / 2);
     cbgrid_matrix_free(d);
     cbgrid_matrix_free(x);
@@ -110,8 +110,8 @@ static void test_long_searches(void) {
     FOUND(cbgrid_matrix_distances_given(roads, given, &made), in_column, COUNT);
     FOUND(cbgrid_matrix_parents(steps, 0, &made), parent, COUNT - 1);
     FOUND(cbgrid_matrix_components(steps, &made), first, COUNT);
-    MAKES(cbgrid_matrix_levels_from(loops, all, COUNT, &made), CBGRID_MIN_PLUS, COUNT, COUNT, zero_on_diagonal, COUNT);
-    MAKES(cbgrid_matrix_distances_from(lengths, all, COUNT, &made), CBGRID_MIN_PLUS, COUNT, COUNT, zero_on_diagonal,
+    MAKES(cbgrid_matrix_levels_from(loops, all, COUNT, NULL, &made), CBGRID_MIN_PLUS, COUNT, COUNT, zero_on_diagonal, COUNT);
+    MAKES(cbgrid_matrix_distances_from(lengths, all, COUNT, NULL, &made), CBGRID_MIN_PLUS, COUNT, COUNT, zero_on_diagonal,
           COUNT);
     EXPECT(cbgrid_matrix_triangles(steps, &triangles) == CBGRID_OK && triangles == 0);
     cbgrid_matrix_free(loops);
@@ -128,10 +128,10 @@ static void test_long_lists(void) {
     struct cbgrid_matrix *x = kept_of(0, COUNT, 1, in_column, COUNT);
     struct cbgrid_columns of_d, of_x;
     EXPECT(!cbgrid_matrix_columns(d, &of_d) && !cbgrid_matrix_columns(x, &of_x));
-    MAKES(cbgrid_matrix_of_columns(0, &of_d, &made), 0, COUNT, COUNT, on_diagonal, COUNT);
-    MAKES(cbgrid_matrix_of_rows(0, &of_d, &made), 0, COUNT, COUNT, on_diagonal, COUNT);
-    COLUMN(cbgrid_matrix_of_columns(0, &of_x, &made), in_column);
-    MAKES(cbgrid_matrix_of_rows(0, &of_x, &made), 0, 1, COUNT, in_row, COUNT);
+    MAKES(cbgrid_matrix_of_columns(0, &of_d, NULL, &made), 0, COUNT, COUNT, on_diagonal, COUNT);
+    MAKES(cbgrid_matrix_of_rows(0, &of_d, NULL, &made), 0, COUNT, COUNT, on_diagonal, COUNT);
+    COLUMN(cbgrid_matrix_of_columns(0, &of_x, NULL, &made), in_column);
+    MAKES(cbgrid_matrix_of_rows(0, &of_x, NULL, &made), 0, 1, COUNT, in_row, COUNT);
     cbgrid_free_columns(&of_d);
     cbgrid_free_columns(&of_x);
     cbgrid_matrix_free(d);

@@ -8,17 +8,17 @@ static void test_codes_of_kept(void) {
     struct cbgrid_matrix *a, *b, *unset = NULL, *const was = (struct cbgrid_matrix *)&unset, *out = was;
     struct cbgrid_columns lists = cbgrid_dcsc32(2, 3, NULL, 0, NULL, NULL, NULL, 0);
     uint64_t value = 77, line = 77;
-    EXPECT(cbgrid_matrix_of_triples(CBGRID_PLUS_TIMES, 2, 3, triples, 3, &a) == CBGRID_OK);
-    EXPECT(cbgrid_matrix_of_triples(CBGRID_OR_AND, 2, 3, triples, 3, &b) == CBGRID_OK);
-    EXPECT(cbgrid_matrix_of_triples(SEMIRINGS, 2, 3, triples, 3, &out) == CBGRID_SEMIRING);
-    EXPECT(cbgrid_matrix_of_triples(0, CBGRID_LIMIT + 1, 3, triples, 3, &out) == CBGRID_TOO_LARGE);
-    EXPECT(cbgrid_matrix_of_triples(0, 2, UINT32_MAX, triples, 3, &out) == CBGRID_TOO_LARGE);
-    EXPECT(cbgrid_matrix_of_triples(0, 2, 3, &far_row, 1, &out) == CBGRID_PLACE);
-    EXPECT(cbgrid_matrix_of_triples(0, 2, 3, &far_column, 1, &out) == CBGRID_PLACE);
-    EXPECT(cbgrid_matrix_of_triples(CBGRID_OR_AND, 2, 3, &two, 1, &out) == CBGRID_VALUE);
-    EXPECT(cbgrid_matrix_of_triples(0, 2, 3, NULL, 1, &out) == CBGRID_NULL_POINTER);
-    EXPECT(cbgrid_matrix_of_columns(SEMIRINGS, &lists, &out) == CBGRID_SEMIRING);
-    EXPECT(cbgrid_matrix_of_rows(SEMIRINGS, &lists, &out) == CBGRID_SEMIRING);
+    EXPECT(cbgrid_matrix_of_triples(CBGRID_PLUS_TIMES, 2, 3, triples, 3, NULL, &a) == CBGRID_OK);
+    EXPECT(cbgrid_matrix_of_triples(CBGRID_OR_AND, 2, 3, triples, 3, NULL, &b) == CBGRID_OK);
+    EXPECT(cbgrid_matrix_of_triples(SEMIRINGS, 2, 3, triples, 3, NULL, &out) == CBGRID_SEMIRING);
+    EXPECT(cbgrid_matrix_of_triples(0, CBGRID_LIMIT + 1, 3, triples, 3, NULL, &out) == CBGRID_TOO_LARGE);
+    EXPECT(cbgrid_matrix_of_triples(0, 2, UINT32_MAX, triples, 3, NULL, &out) == CBGRID_TOO_LARGE);
+    EXPECT(cbgrid_matrix_of_triples(0, 2, 3, &far_row, 1, NULL, &out) == CBGRID_PLACE);
+    EXPECT(cbgrid_matrix_of_triples(0, 2, 3, &far_column, 1, NULL, &out) == CBGRID_PLACE);
+    EXPECT(cbgrid_matrix_of_triples(CBGRID_OR_AND, 2, 3, &two, 1, NULL, &out) == CBGRID_VALUE);
+    EXPECT(cbgrid_matrix_of_triples(0, 2, 3, NULL, 1, NULL, &out) == CBGRID_NULL_POINTER);
+    EXPECT(cbgrid_matrix_of_columns(SEMIRINGS, &lists, NULL, &out) == CBGRID_SEMIRING);
+    EXPECT(cbgrid_matrix_of_rows(SEMIRINGS, &lists, NULL, &out) == CBGRID_SEMIRING);
     EXPECT(cbgrid_matrix_add(a, b, &out) == CBGRID_MIXED);
     EXPECT(cbgrid_matrix_times(b, a, &out) == CBGRID_MIXED);
     EXPECT(cbgrid_matrix_levels(a, 9, &out) == CBGRID_MIXED);
@@ -50,8 +50,8 @@ static void test_codes_of_kept(void) {
 /* Sources that are no vertices of a square graph. */
 static void test_sources(void) {
     struct cbgrid_matrix *roads, *lengths, *unset = NULL, *const was = (struct cbgrid_matrix *)&unset, *out = was;
-    EXPECT(cbgrid_matrix_of_triples(CBGRID_OR_AND, 2, 2, NULL, 0, &roads) == CBGRID_OK);
-    EXPECT(cbgrid_matrix_of_triples(CBGRID_MIN_PLUS, 2, 2, NULL, 0, &lengths) == CBGRID_OK);
+    EXPECT(cbgrid_matrix_of_triples(CBGRID_OR_AND, 2, 2, NULL, 0, NULL, &roads) == CBGRID_OK);
+    EXPECT(cbgrid_matrix_of_triples(CBGRID_MIN_PLUS, 2, 2, NULL, 0, NULL, &lengths) == CBGRID_OK);
     EXPECT(cbgrid_matrix_levels(roads, 2, &out) == CBGRID_SOURCE);
     EXPECT(cbgrid_matrix_parents(roads, 2, &out) == CBGRID_SOURCE);
     EXPECT(cbgrid_matrix_distances(lengths, UINT32_MAX, &out) == CBGRID_SOURCE);
@@ -66,7 +66,7 @@ static void test_null_matrices(void) {
     static const struct cbgrid_triple one = {0, 0, 1};
     struct cbgrid_matrix *a, *out = NULL;
     struct cbgrid_text text = {NULL, 5};
-    EXPECT(cbgrid_matrix_of_triples(CBGRID_OR_AND, 1, 1, &one, 1, &a) == CBGRID_OK);
+    EXPECT(cbgrid_matrix_of_triples(CBGRID_OR_AND, 1, 1, &one, 1, NULL, &a) == CBGRID_OK);
     int codes[] = {
         cbgrid_matrix_transpose(NULL, &out),      cbgrid_matrix_transpose(a, NULL),
         cbgrid_matrix_row_sums(NULL, &out),       cbgrid_matrix_row_sums(a, NULL),

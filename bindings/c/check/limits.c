@@ -20,8 +20,8 @@ static void test_huge_sides(void) {
     struct cbgrid_columns lists = cbgrid_dcsc32(CBGRID_LIMIT, CBGRID_LIMIT, at, 1, one, at, three, 1);
     struct cbgrid_triple nine = {last.row, last.column, 9};
     struct cbgrid_matrix *a, *lengths, *made;
-    EXPECT(cbgrid_matrix_of_columns(0, &lists, &a) == CBGRID_OK);
-    EXPECT(cbgrid_matrix_of_columns(CBGRID_MIN_PLUS, &lists, &lengths) == CBGRID_OK);
+    EXPECT(cbgrid_matrix_of_columns(0, &lists, NULL, &a) == CBGRID_OK);
+    EXPECT(cbgrid_matrix_of_columns(CBGRID_MIN_PLUS, &lists, NULL, &lengths) == CBGRID_OK);
     EXPECT(cbgrid_matrix_multiply(a, a, NULL, &made) == CBGRID_OK && is_one(made, CBGRID_LIMIT, CBGRID_LIMIT, nine));
     EXPECT(cbgrid_matrix_transpose(a, &made) == CBGRID_OK && is_one(made, CBGRID_LIMIT, CBGRID_LIMIT, last));
     EXPECT(cbgrid_matrix_row_sums(a, &made) == CBGRID_OK);
@@ -39,7 +39,7 @@ static void test_huge_sides(void) {
 static void test_same_matrix(void) {
     static const struct cbgrid_triple triples[] = {{0, 0, 1}, {0, 1, 1}, {1, 0, 1}};
     struct cbgrid_matrix *a, *square, *fourth;
-    EXPECT(cbgrid_matrix_of_triples(0, 2, 2, triples, 3, &a) == CBGRID_OK);
+    EXPECT(cbgrid_matrix_of_triples(0, 2, 2, triples, 3, NULL, &a) == CBGRID_OK);
     EXPECT(cbgrid_matrix_multiply(a, a, NULL, &square) == CBGRID_OK);
     EXPECT(cbgrid_matrix_multiply(square, square, NULL, &fourth) == CBGRID_OK);
     /* [1 1; 1 0] to the fourth is [5 3; 3 2]. */
@@ -59,8 +59,8 @@ static void test_products_that_vanish(void) {
     static const struct cbgrid_triple half = {0, 0, (uint64_t)1 << 63}, two = {0, 0, 2};
     struct cbgrid_matrix *a, *b, *made;
     struct cbgrid_columns out;
-    EXPECT(cbgrid_matrix_of_triples(0, 1, 1, &half, 1, &a) == CBGRID_OK);
-    EXPECT(cbgrid_matrix_of_triples(0, 1, 1, &two, 1, &b) == CBGRID_OK);
+    EXPECT(cbgrid_matrix_of_triples(0, 1, 1, &half, 1, NULL, &a) == CBGRID_OK);
+    EXPECT(cbgrid_matrix_of_triples(0, 1, 1, &two, 1, NULL, &b) == CBGRID_OK);
     EXPECT(cbgrid_matrix_multiply(a, b, NULL, &made) == CBGRID_OK);
     long before = live;
     EXPECT(cbgrid_matrix_columns(made, &out) == CBGRID_OK && live == before);
@@ -75,10 +75,10 @@ static void test_products_that_vanish(void) {
 /* No sides and no entries. */
 static void test_empty_shapes(void) {
     struct cbgrid_matrix *none, *empty, *made;
-    EXPECT(cbgrid_matrix_of_triples(0, 0, 0, NULL, 0, &none) == CBGRID_OK);
+    EXPECT(cbgrid_matrix_of_triples(0, 0, 0, NULL, 0, NULL, &none) == CBGRID_OK);
     EXPECT(cbgrid_matrix_multiply(none, none, NULL, &made) == CBGRID_OK && cbgrid_matrix_entries(made) == 0);
     cbgrid_matrix_free(made);
-    EXPECT(cbgrid_matrix_of_triples(0, 5, 6, NULL, 0, &empty) == CBGRID_OK);
+    EXPECT(cbgrid_matrix_of_triples(0, 5, 6, NULL, 0, NULL, &empty) == CBGRID_OK);
     EXPECT(cbgrid_matrix_transpose(empty, &made) == CBGRID_OK && cbgrid_matrix_nrows(made) == 6);
     cbgrid_matrix_free(made);
     EXPECT(cbgrid_matrix_triples(empty, NULL) == CBGRID_OK);

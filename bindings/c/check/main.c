@@ -13,6 +13,7 @@ int main(int argc, char **argv) {
     test_codes();
     test_kept_codes();
     test_limits();
+    test_misfits();
     test_threads(is_few);
 #endif
     test_operations(is_few);

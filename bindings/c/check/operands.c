@@ -95,12 +95,12 @@ int keep(uint32_t semiring, const struct dense *a, int way, struct cbgrid_matrix
     struct lists lists;
     if (way == 0) {
         struct cbgrid_columns columns = lend(semiring, a, &lists);
-        return cbgrid_matrix_of_columns(semiring, &columns, out);
+        return cbgrid_matrix_of_columns(semiring, &columns, NULL, out);
     }
     if (way == 1) {
         struct dense rows_of = turned(a);
         struct cbgrid_columns rows = lend(semiring, &rows_of, &lists);
-        return cbgrid_matrix_of_rows(semiring, &rows, out);
+        return cbgrid_matrix_of_rows(semiring, &rows, NULL, out);
     }
     struct cbgrid_triple triples[2 * SIDE * SIDE];
     size_t len = 0;
@@ -113,7 +113,7 @@ int keep(uint32_t semiring, const struct dense *a, int way, struct cbgrid_matrix
             triples[len++] = (struct cbgrid_triple){i, j, x};
         }
     }
-    return cbgrid_matrix_of_triples(semiring, a->nrows, a->ncols, triples, len, out);
+    return cbgrid_matrix_of_triples(semiring, a->nrows, a->ncols, triples, len, NULL, out);
 }
 
 /* Checks a kept matrix by each call that reads it. Returns the code. */
@@ -157,7 +157,7 @@ struct cbgrid_matrix *random_kept(uint32_t semiring, uint32_t nrows, uint32_t nc
             if (one_of && !draw(one_of)) triples[len++] = (struct cbgrid_triple){i, j, value_of(semiring)};
         }
     }
-    EXPECT(cbgrid_matrix_of_triples(semiring, nrows, ncols, triples, len, &made) == CBGRID_OK);
+    EXPECT(cbgrid_matrix_of_triples(semiring, nrows, ncols, triples, len, NULL, &made) == CBGRID_OK);
     __real_free(triples);
     return made;
 }

@@ -44,7 +44,7 @@ static const struct example far_empty = {CBGRID_LIMIT, CBGRID_LIMIT, NULL, 0};
 
 static struct cbgrid_matrix *kept_of(uint32_t semiring, const struct example *it) {
     struct cbgrid_matrix *made = NULL;
-    EXPECT(cbgrid_matrix_of_triples(semiring, it->nrows, it->ncols, it->triples, it->len, &made) == CBGRID_OK);
+    EXPECT(cbgrid_matrix_of_triples(semiring, it->nrows, it->ncols, it->triples, it->len, NULL, &made) == CBGRID_OK);
     return made;
 }
 
@@ -245,7 +245,7 @@ static int by_apply(const struct cbgrid_matrix *a, struct cbgrid_matrix **out) {
 static int by_part(const struct cbgrid_matrix *a, struct cbgrid_matrix **out) { return cbgrid_matrix_part(a, 1, 2, 0, 2, out); }
 static int by_extract(const struct cbgrid_matrix *a, struct cbgrid_matrix **out) {
     static const uint32_t rows[] = {1, 0, 1}, columns[] = {1, 0};
-    return cbgrid_matrix_extract(a, rows, 3, columns, 2, out);
+    return cbgrid_matrix_extract(a, rows, 3, columns, 2, NULL, out);
 }
 static int by_kron(const struct cbgrid_matrix *a, struct cbgrid_matrix **out) { return cbgrid_matrix_kron(a, a, out); }
 static int by_assign(const struct cbgrid_matrix *a, struct cbgrid_matrix **out) { return cbgrid_matrix_assign(a, 0, 0, a, out); }
@@ -262,7 +262,7 @@ static int by_distances(const struct cbgrid_matrix *a, struct cbgrid_matrix **ou
 static int by_parents(const struct cbgrid_matrix *a, struct cbgrid_matrix **out) { return cbgrid_matrix_parents(a, 0, out); }
 static int by_levels_from(const struct cbgrid_matrix *a, struct cbgrid_matrix **out) {
     static const uint32_t sources[] = {1, 0};
-    return cbgrid_matrix_levels_from(a, sources, 2, out);
+    return cbgrid_matrix_levels_from(a, sources, 2, NULL, out);
 }
 
 static void test_calls_on_panels(void) {

@@ -152,7 +152,7 @@ static void test_huge_products(void) {
     static const struct cbgrid_triple last = {CBGRID_LIMIT - 1, CBGRID_LIMIT - 1, 3};
     struct cbgrid_matrix *huge, *made;
     uint64_t value;
-    EXPECT(cbgrid_matrix_of_triples(0, CBGRID_LIMIT, CBGRID_LIMIT, &last, 1, &huge) == CBGRID_OK);
+    EXPECT(cbgrid_matrix_of_triples(0, CBGRID_LIMIT, CBGRID_LIMIT, &last, 1, NULL, &huge) == CBGRID_OK);
     for (uint32_t way = 0; way < WAYS; way++) {
         struct cbgrid_how how = {
             way % 3 ? huge : NULL, way % 3 == 2, way / 3 % 2, way / 6 % 2, way / 12 ? 3 : 0,

@@ -24,7 +24,7 @@ static void test_shared_matrix(void) {
     static const struct cbgrid_triple triples[] = {{0, 0, 1}, {0, 1, 1}, {1, 0, 1}};
     pthread_t threads[4];
     uint64_t counts[4] = {0, 0, 0, 0};
-    EXPECT(cbgrid_matrix_of_triples(0, 2, 2, triples, 3, &shared) == CBGRID_OK);
+    EXPECT(cbgrid_matrix_of_triples(0, 2, 2, triples, 3, NULL, &shared) == CBGRID_OK);
     for (int i = 0; i < 4; i++) EXPECT(!pthread_create(&threads[i], NULL, multiply_often, &counts[i]));
     for (int i = 0; i < 4; i++) EXPECT(!pthread_join(threads[i], NULL) && counts[i] == 800);
     cbgrid_matrix_free(shared);
@@ -90,21 +90,40 @@ static int pruned_of(const struct operands *of, struct cbgrid_matrix **out) {
 static int column_sums_of(const struct operands *of, struct cbgrid_matrix **out) {
     return cbgrid_matrix_column_sums(of->a, out);
 }
+static int upper_of(const struct operands *of, struct cbgrid_matrix **out) {
+    return cbgrid_matrix_select(of->a, CBGRID_UPPER, -1, out);
+}
+static int applied_to(const struct operands *of, struct cbgrid_matrix **out) {
+    return cbgrid_matrix_apply(of->a, CBGRID_SUM, 1, out);
+}
+static int excluded_of(const struct operands *of, struct cbgrid_matrix **out) {
+    return cbgrid_matrix_exclude(of->a, of->b, out);
+}
+static int updated_of(const struct operands *of, struct cbgrid_matrix **out) {
+    return cbgrid_matrix_update(of->a, of->b, NULL, CBGRID_ACCUMULATE, out);
+}
+static int updated_under(const struct operands *of, struct cbgrid_matrix **out) {
+    return cbgrid_matrix_update(of->a, of->b, of->mask, CBGRID_COMPLEMENT, out);
+}
 
-static int (*const calls[])(const struct operands *of, struct cbgrid_matrix **out) = {
-    product_of, sum_of, times_of, pruned_of, column_sums_of,
+enum { PRODUCT, SUM, TIMES, PRUNED, COLUMN_SUMS, UPPER, APPLIED, EXCLUDED, UPDATED, UPDATED_UNDER, CALLS };
+static int (*const calls[CALLS])(const struct operands *of, struct cbgrid_matrix **out) = {
+    product_of, sum_of, times_of, pruned_of, column_sums_of, upper_of, applied_to, excluded_of, updated_of, updated_under,
 };
-#define CALLS (sizeof calls / sizeof *calls)
 
-/* Operands of the same shape, and a share for each of several threads; a column, which can't be parted. The product of those that
- * aren't square is refused. */
+/* Operands of the same shape, and a share for each of several threads; a few entries less and a few more than are left to one
+ * thread; a mask that has more entries than the others; a column, which can't be parted. The product of those that aren't square
+ * is refused. */
 static const struct factors operands_of_calls[] = {
-    {300, 300, 300, 1, 1}, {700, 700, 700, 9, 3}, {2, 60000, 60000, 1, 1}, {60000, 1, 1, 1, 1}, {0, 0, 0, 0, 0},
+    {300, 300, 300, 1, 1}, {700, 700, 700, 9, 3}, {128, 128, 128, 1, 1}, {128, 150, 150, 1, 1}, {400, 400, 400, 90, 9},
+    {2, 60000, 60000, 1, 1}, {60000, 1, 1, 1, 1}, {0, 0, 0, 0, 0},
 };
 
 static struct operands same_shape(uint32_t semiring, const struct factors *f) {
     return (struct operands){
-        random_kept(semiring, f->nrows, f->ncols, f->one_of_a), random_kept(semiring, f->nrows, f->ncols, f->one_of_b), NULL,
+        random_kept(semiring, f->nrows, f->ncols, f->one_of_a),
+        random_kept(semiring, f->nrows, f->ncols, f->one_of_b),
+        random_kept(semiring, f->nrows, f->ncols, f->one_of_a ? 2 : 0),
     };
 }
 
@@ -189,16 +208,23 @@ static void test_calls_refused_memory(size_t k, int step) {
 /* Each call by threads has the faults of the whole, also where the first allocation would be refused. */
 static void test_calls_codes(void) {
     struct cbgrid_matrix *a = random_kept(0, 300, 300, 1), *wide = random_kept(0, 300, 301, 1);
-    struct cbgrid_matrix *other = random_kept(1, 300, 301, 1);
+    struct cbgrid_matrix *other = random_kept(1, 300, 301, 1), *flags = random_kept(CBGRID_OR_AND, 300, 300, 1);
     const struct {
         size_t call;
         struct operands of;
         int code;
     } rows[] = {
-        {0, {a, other, NULL}, CBGRID_MIXED}, {0, {wide, a, NULL}, CBGRID_SHAPES},      {1, {a, other, NULL}, CBGRID_MIXED},
-        {1, {a, wide, NULL}, CBGRID_SHAPES}, {2, {wide, other, NULL}, CBGRID_MIXED},   {2, {wide, a, NULL}, CBGRID_SHAPES},
-        {1, {a, NULL, NULL}, CBGRID_NULL_POINTER}, {3, {NULL, a, NULL}, CBGRID_NULL_POINTER},
-        {4, {NULL, a, NULL}, CBGRID_NULL_POINTER},
+        {PRODUCT, {a, other, NULL}, CBGRID_MIXED},    {PRODUCT, {wide, a, NULL}, CBGRID_SHAPES},
+        {SUM, {a, other, NULL}, CBGRID_MIXED},        {SUM, {a, wide, NULL}, CBGRID_SHAPES},
+        {TIMES, {wide, other, NULL}, CBGRID_MIXED},   {TIMES, {wide, a, NULL}, CBGRID_SHAPES},
+        {EXCLUDED, {a, other, NULL}, CBGRID_MIXED},   {EXCLUDED, {a, wide, NULL}, CBGRID_SHAPES},
+        {UPDATED, {a, other, NULL}, CBGRID_MIXED},    {UPDATED, {wide, a, NULL}, CBGRID_SHAPES},
+        {UPDATED_UNDER, {a, wide, other}, CBGRID_MIXED}, {UPDATED_UNDER, {a, other, wide}, CBGRID_MIXED},
+        {UPDATED_UNDER, {a, a, wide}, CBGRID_SHAPES}, {UPDATED_UNDER, {wide, a, a}, CBGRID_SHAPES},
+        {SUM, {a, NULL, NULL}, CBGRID_NULL_POINTER},  {PRUNED, {NULL, a, NULL}, CBGRID_NULL_POINTER},
+        {COLUMN_SUMS, {NULL, a, NULL}, CBGRID_NULL_POINTER}, {UPPER, {NULL, a, NULL}, CBGRID_NULL_POINTER},
+        {APPLIED, {NULL, a, NULL}, CBGRID_NULL_POINTER}, {EXCLUDED, {a, NULL, NULL}, CBGRID_NULL_POINTER},
+        {UPDATED, {a, NULL, a}, CBGRID_NULL_POINTER},
     };
     struct cbgrid_matrix *out = NULL;
     cbgrid_threads(4);
@@ -210,9 +236,12 @@ static void test_calls_codes(void) {
         }
     }
     left = 0;
-    EXPECT(cbgrid_matrix_prune(a, 7, 1, &out) == CBGRID_TEST && !out);
+    EXPECT(cbgrid_matrix_prune(a, 7, 1, &out) == CBGRID_TEST && cbgrid_matrix_select(a, 4, 0, &out) == CBGRID_TEST);
+    EXPECT(cbgrid_matrix_apply(a, 6, 0, &out) == CBGRID_TEST && cbgrid_matrix_update(a, other, wide, 8, &out) == CBGRID_TEST);
+    EXPECT(cbgrid_matrix_apply(flags, CBGRID_CONSTANT, 2, &out) == CBGRID_VALUE && !out);
     left = -1;
     cbgrid_threads(1);
+    cbgrid_matrix_free(flags);
     cbgrid_matrix_free(a);
     cbgrid_matrix_free(wide);
     cbgrid_matrix_free(other);
@@ -310,6 +339,6 @@ void test_threads(int is_few) {
     for (int places = 0; places < PLACES; places++) test_threads_refused_memory(places, is_few ? 9 : 1);
     test_threads_codes();
     test_shared_calls(is_few);
-    for (size_t k = 1; k < CALLS; k++) test_calls_refused_memory(k, is_few ? 9 : 1);
+    for (size_t k = SUM; k < CALLS; k++) test_calls_refused_memory(k, is_few ? 9 : 1);
     test_calls_codes();
 }

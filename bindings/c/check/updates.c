@@ -126,9 +126,9 @@ static void test_builds(int rounds) {
 static void test_build_codes(void) {
     static const struct cbgrid_triple triples[] = {{0, 0, 1}, {1, 0, 1}, {0, 2, 1}};
     struct cbgrid_matrix *a, *b, *c, *unset = NULL, *const was = (struct cbgrid_matrix *)&unset, *out = was;
-    EXPECT(cbgrid_matrix_of_triples(CBGRID_OR_AND, 2, 3, triples, 3, &a) == CBGRID_OK);
-    EXPECT(cbgrid_matrix_of_triples(CBGRID_MIN_PLUS, 2, 3, triples, 3, &b) == CBGRID_OK);
-    EXPECT(cbgrid_matrix_of_triples(CBGRID_OR_AND, 3, 2, NULL, 0, &c) == CBGRID_OK);
+    EXPECT(cbgrid_matrix_of_triples(CBGRID_OR_AND, 2, 3, triples, 3, NULL, &a) == CBGRID_OK);
+    EXPECT(cbgrid_matrix_of_triples(CBGRID_MIN_PLUS, 2, 3, triples, 3, NULL, &b) == CBGRID_OK);
+    EXPECT(cbgrid_matrix_of_triples(CBGRID_OR_AND, 3, 2, NULL, 0, NULL, &c) == CBGRID_OK);
     left = 0;
     EXPECT(cbgrid_matrix_update(a, b, c, 8, &out) == CBGRID_TEST);
     EXPECT(cbgrid_matrix_update(a, b, NULL, UINT32_MAX, &out) == CBGRID_TEST);
@@ -162,7 +162,7 @@ static void test_huge_builds(void) {
     static const struct cbgrid_triple last = {CBGRID_LIMIT - 1, CBGRID_LIMIT - 1, 3};
     struct cbgrid_matrix *huge, *made = NULL;
     uint64_t value;
-    EXPECT(cbgrid_matrix_of_triples(0, CBGRID_LIMIT, CBGRID_LIMIT, &last, 1, &huge) == CBGRID_OK);
+    EXPECT(cbgrid_matrix_of_triples(0, CBGRID_LIMIT, CBGRID_LIMIT, &last, 1, NULL, &huge) == CBGRID_OK);
     EXPECT(cbgrid_matrix_power(huge, 0, &made) == CBGRID_TEST && !made);
     EXPECT(cbgrid_matrix_update(huge, huge, huge, CBGRID_ACCUMULATE, &made) == CBGRID_OK);
     EXPECT(cbgrid_matrix_value(made, last.row, last.column, &value) == CBGRID_OK && value == 6);

@@ -181,6 +181,38 @@ class Kept(unittest.TestCase):
         del a
         gc.collect()
 
+    def refused(self, code, entry, call, *arguments):
+        """A call raises an error with a code, about an entry."""
+        with self.assertRaises(cbgrid.CbgridValueError) as raised:
+            call(*arguments)
+        fault = raised.exception
+        self.assertEqual((fault.code, fault.entry), (code, entry))
+        self.assertEqual(str(fault), fault.message if entry is None else f"entry {entry}: {fault.message}")
+        again = pickle.loads(pickle.dumps(fault))
+        self.assertEqual((again.code, again.entry, str(again)), (code, entry, str(fault)))
+
+    def test_entries_of_errors(self):
+        rows, columns, shape = np.repeat(np.arange(3000), 2), np.tile((1, 4), 3000), (3000, 7)
+        starts = np.arange(0, 6001, 2, dtype=np.int32)
+        for n in (0, 1, 2999, 5998, 5999):
+            values = np.ones(6000, np.int64)
+            values[n], values[-1] = 2, 3
+            csr = sp.csr_array((values, columns.astype(np.int32), starts), shape=shape)
+            self.refused(9, n, cbgrid.Matrix, csr, "or-and")
+            self.refused(9, n, cbgrid.Matrix, csr.T, "or-and")
+            self.refused(9, None, cbgrid.Matrix, csr.tocoo(), "or-and")
+            self.refused(9, n, cbgrid.Matrix.from_triples, rows, columns, values, shape, "or-and")
+            sources = np.zeros(6000, np.int64)
+            sources[n], sources[-1] = 7, 8
+            self.refused(12, n, cbgrid.bfs, sp.csr_array((7, 7), dtype=np.int64), sources)
+            self.refused(12, n, cbgrid.relax, sp.csc_array((7, 7), dtype=np.int64), sources)
+        for n in (1, 2999, 5999):
+            csr = sp.csr_array((np.ones(6000, np.int64), columns.astype(np.int32), starts), shape=shape)
+            csr.indices[n] = 7
+            self.refused(8, n, cbgrid.Matrix, csr)
+        a = cbgrid.Matrix(np.ones((2, 3), np.int64))
+        self.refused(10, None, a.multiply, a)
+
 
 if __name__ == "__main__":
     unittest.main()

@@ -71,17 +71,22 @@ class Threads(unittest.TestCase):
         self.assertEqual([it == want for it in made], [True] * 6)
 
     def test_calls_by_set_threads(self):
-        calls = (lambda a, b: a @ b, lambda a, b: a + b, lambda a, b: a * b, lambda a, b: cbgrid.prune(a, "below", 9), lambda a, b: a.sums("columns"))
+        calls = (
+            lambda a, b: a @ b, lambda a, b: a + b, lambda a, b: a * b, lambda a, b: cbgrid.prune(a, "below", 9),
+            lambda a, b: a.sums("columns"), lambda a, b: a.triu(-1), lambda a, b: a.apply("sum", 1), lambda a, b: a.exclude(b),
+            lambda a, b: a.update(b, accumulate=True), lambda a, b: b.update(a, a.tril(), complement=True, replace=True),
+        )
         for semiring in SEMIRINGS:
-            a, b = self.factor(300, 300, 90000, semiring), self.factor(300, 300, 30000, semiring)
-            want = [call(a, b) for call in calls]
-            try:
-                for threads in THREADS:
-                    cbgrid.set_threads(threads)
-                    self.assertEqual([call(a, b) for call in calls], want)
-                    self.assertEqual(a.multiply(b, threads=2), want[0])
-            finally:
-                cbgrid.set_threads(1)
+            for count in (900, 90000):
+                a, b = self.factor(300, 300, count, semiring), self.factor(300, 300, 30000, semiring)
+                want = [call(a, b) for call in calls]
+                try:
+                    for threads in THREADS:
+                        cbgrid.set_threads(threads)
+                        self.assertEqual([call(a, b) for call in calls], want)
+                        self.assertEqual(a.multiply(b, threads=2), want[0])
+                finally:
+                    cbgrid.set_threads(1)
 
     def test_refusals(self):
         self.assertRaises(ValueError, cbgrid.set_threads, 0)

@@ -27,6 +27,7 @@ count: int = cbgrid.triangles(kept)
 shape: tuple[int, int] = kept.T.shape
 written: bytes = cbgrid.text(cbgrid.add(kept, kept))
 line: "int | None" = cbgrid.CbgridError(13, "text", 2).line
+entry: "int | None" = cbgrid.CbgridError(9, "value", entry=2).entry
 '''
 REFUSED = '''cbgrid.multiply(graph)
 cbgrid.multiply(graph, graph, semiring=1)

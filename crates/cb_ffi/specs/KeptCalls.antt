@@ -15,10 +15,10 @@ use Rattle.cb_kept.specs.declared.kept.Kept.{Kept}
 use Rattle.cb_kept.specs.Refusals.{code_of, over, read_faults, list_faults, IsMemory}
 use Rattle.cb_kept.specs.KeptAnswers.{kept_faults, HasMadeKept, OverName, IsKeptOf}
 use Rattle.cb_kept.specs.Kept.{matrix_in}
-use Rattle.cb_kept.specs.KeptSelections.{selection_faults, HasSelected, number_faults, IsKeptExtract}
+use Rattle.cb_kept.specs.KeptSelections.{selection_faults, HasSelected, HasSelectedColumns, number_faults, IsKeptExtract}
 use Rattle.cb_kept.specs.KeptTurned.{turned_faults, IsKeptTurned}
 use Rattle.cb_selections.specs.declared.updates.WriteBack.{WriteBack}
-use Rattle.cb_kept.specs.KeptUpdates.{update_faults, HasUpdated}
+use Rattle.cb_kept.specs.KeptUpdates.{update_faults, HasUpdated, HasUpdatedColumns}
 use Rattle.cb_kept.specs.declared.axes.Axis.{Axis}
 use Rattle.cb_kept.specs.KeptDegrees.{IsKeptDegrees}
 use Rattle.cb_kept.specs.KeptProducts.{outside_faults, IsKeptOutside}
@@ -106,6 +106,13 @@ IsEntryEndsCall a b code old new = IsCall (pair_faults a b) (AreEnds (length old
 -- of the call that keeps the columns of a range of an operation's result
 unfoldable pub IsColumnsCall : Option Operation → ℕ → ℕ → List Kept → ℕ → Owned → Owned → Type 0
 IsColumnsCall operation first end ks code old new = IsKeptCall (kept_faults operation ks) (HasMadeColumns operation first end ks) code old new
+
+-- the same of a selection, and of a matrix updated by another
+unfoldable pub IsSelectionColumnsCall : Option Selection → ℕ → ℕ → List Kept → ℕ → Owned → Owned → Type 0
+IsSelectionColumnsCall selection first end ks code old new = IsKeptCall (selection_faults selection ks) (HasSelectedColumns selection first end ks) code old new
+
+unfoldable pub IsUpdateColumnsCall : Option WriteBack → ℕ → ℕ → Kept → Kept → Option Kept → ℕ → Owned → Owned → Type 0
+IsUpdateColumnsCall how first end a b mask code old new = IsKeptCall (update_faults how a b mask) (HasUpdatedColumns how first end a b mask) code old new
 
 -- what C gets of the call that parts a product's columns into as many ranges as its list has places
 unfoldable pub IsEndsCall : Kept → Kept → ℕ → List ℕ → List ℕ → Type 0

@@ -44,18 +44,20 @@ ghost use Rattle.cb_kept.specs.KeptUpdates.{write_back_of};
 ghost use Rattle.cb_kept.specs.declared.axes.Axis.TheVariants as axis_is;
 ghost use Rattle.cb_kept.specs.declared.kept_masked_panels.Allowed.TheVariants as allowed_is;
 ghost use Rattle.cb_kept.specs.KeptTexts.{IsKeptText};
+ghost use Rattle.cb_kept.specs.Misfits.{IsFirst, IsFrom, IsMisfitOfLists, IsMisfitOfTriples};
 ghost use Rattle.cb_ffi.specs.Calls.{IsCall, IsLine};
-ghost use Rattle.cb_ffi.specs.KeptCalls.{HasHandedOut, IsColumnsCall, IsDegreesCall, IsEndsCall, IsEntryEndsCall, IsExtractCall, IsJoinCall, IsKeepCall, IsKeptCall, IsKeptOperation, IsMaskedPanelCall, IsNumbersFromCall, IsNumbersGivenCall, IsOutsideCall, IsOwnedJoinCall, IsPanelCall, IsReadCall, IsSelectionCall, IsTriplesCall, IsTurnedCall, IsUpdateCall};
+ghost use Rattle.cb_ffi.specs.KeptCalls.{HasHandedOut, IsColumnsCall, IsDegreesCall, IsEndsCall, IsEntryEndsCall, IsExtractCall, IsJoinCall, IsKeepCall, IsKeptCall, IsKeptOperation, IsMaskedPanelCall, IsNumbersFromCall, IsNumbersGivenCall, IsOutsideCall, IsOwnedJoinCall, IsPanelCall, IsReadCall, IsSelectionCall, IsSelectionColumnsCall, IsTriplesCall, IsTurnedCall, IsUpdateCall, IsUpdateColumnsCall};
 
 mod handles;
 
 use cb_kept::{
-    Allowed, Axis, Fault, Kept, Summary, Text, Triple, function_of, keep_lists, keep_triples,
-    kept_columns, kept_components, kept_degrees, kept_ends, kept_entry_ends, kept_extract,
-    kept_join, kept_masked_panel, kept_numbers, kept_numbers_from, kept_numbers_given,
-    kept_outside, kept_panel, kept_parents, kept_selection, kept_total, kept_triangles,
-    kept_turned_product, kept_update, lists_of, operate, power_of, prune_of, read_kept, region_of,
-    summary_of, text_of, value_at, write_back_of,
+    Allowed, Axis, Fault, Kept, Summary, Text, Triple, first_outside, function_of, keep_lists,
+    keep_triples, kept_columns, kept_components, kept_degrees, kept_ends, kept_entry_ends,
+    kept_extract, kept_join, kept_masked_panel, kept_numbers, kept_numbers_from,
+    kept_numbers_given, kept_outside, kept_panel, kept_parents, kept_selection,
+    kept_selection_columns, kept_total, kept_triangles, kept_turned_product, kept_update,
+    kept_update_columns, lists_of, misfit_of_lists, misfit_of_triples, operate, power_of, prune_of,
+    read_kept, region_of, summary_of, text_of, value_at, write_back_of,
 };
 use cb_lists::Columns;
 use cb_operations::{Operation, Selection};
@@ -203,6 +205,39 @@ fn columns_kept(
     ensures { IsColumnsCall operation first end (lent_in operands.now) result out.old out.new }
 {
     let answer = kept_columns(alloc, operation, operands, first, end);
+    put_kept(alloc, out, answer)
+}
+
+/// Keeps some columns of a selection from kept matrices, or returns the number of the fault.
+fn selection_columns_kept(
+    alloc: Global,
+    selection: Option<Selection>,
+    operands: &[&Kept],
+    first: u32,
+    end: u32,
+    out: &mut Owned,
+) -> u32
+    requires { IfSome selection (λ o. length operands.now ≡ selections.operand_count_of o) }
+    ensures { IsSelectionColumnsCall selection first end (lent_in operands.now) result out.old out.new }
+{
+    let answer = kept_selection_columns(alloc, selection, operands, first, end);
+    put_kept(alloc, out, answer)
+}
+
+/// Keeps some columns of an updated matrix, or returns the number of the fault.
+fn update_columns_kept(
+    alloc: Global,
+    how: Option<WriteBack>,
+    old: &Kept,
+    new: &Kept,
+    mask: Option<&Kept>,
+    first: u32,
+    end: u32,
+    out: &mut Owned,
+) -> u32
+    ensures { IsUpdateColumnsCall how first end old.now new.now (option_copied mask.entry) result out.old out.new }
+{
+    let answer = kept_update_columns(alloc, how, old, new, mask, first, end);
     put_kept(alloc, out, answer)
 }
 
@@ -767,6 +802,36 @@ pub extern "C" fn cbgrid_kernel_kept_value(a: Lent, row: u32, column: u32) -> u6
     value_at(borrowed(a), row, column)
 }
 
+/// What the fault of lists is about, once a call has returned it: the entry, or the stored column, counted on from the number
+/// of entries ([`misfit_of_lists`]).
+#[unsafe(no_mangle)]
+pub extern "C" fn cbgrid_kernel_misfit_of_lists(semiring: u32, a: &Columns) -> u64
+    ensures { IsMisfitOfLists semiring a.now result }
+{
+    misfit_of_lists(semiring, a) as u64
+}
+
+/// The triple that the fault of triples is about, once a call has returned it ([`misfit_of_triples`]).
+#[unsafe(no_mangle)]
+pub extern "C" fn cbgrid_kernel_misfit_of_triples(
+    semiring: u32,
+    nrows: u32,
+    ncols: u32,
+    triples: &[Triple],
+) -> u64
+    ensures { IsMisfitOfTriples semiring nrows ncols triples.now result }
+{
+    misfit_of_triples(semiring, nrows, ncols, triples) as u64
+}
+
+/// The position of the first number that isn't below a bound, or how many numbers there are.
+#[unsafe(no_mangle)]
+pub extern "C" fn cbgrid_kernel_first_outside(numbers: &[u32], bound: u32) -> u64
+    ensures { IsFirst (IsFrom bound numbers.now) (length numbers.now) result }
+{
+    first_outside(numbers, bound) as u64
+}
+
 /// Parts the columns of two kept matrices into ranges of about as many entries, as many ranges as `ends` has places. Writes the
 /// column at which each range ends and the next begins. Ranges of small matrices may have no columns.
 #[unsafe(no_mangle)]
@@ -843,6 +908,93 @@ pub extern "C" fn cbgrid_kernel_kept_column_sums_columns(
 {
     let (operands, sums) = ([borrowed(a)], Some(Operation::ColumnSums));
     columns_kept(alloc, sums, &operands, first, end, out)
+}
+
+/// Selects the entries of a kept matrix in the region of a number ([`region_of`]), in the columns from `first` up to `end`.
+#[unsafe(no_mangle)]
+pub extern "C" fn cbgrid_kernel_kept_select_columns(
+    alloc: Global,
+    a: Lent,
+    region: u32,
+    row: u32,
+    column: u32,
+    first: u32,
+    end: u32,
+    out: &mut Owned,
+) -> u32
+    ensures { IsSelectionColumnsCall (region_of region row column) first end (a.kept.now ∷ []) result out.old out.new }
+{
+    let (operands, selection) = ([borrowed(a)], region_of(region, row, column));
+    selection_columns_kept(alloc, selection, &operands, first, end, out)
+}
+
+/// Replaces each value of a kept matrix by the function of a number ([`function_of`]), in the columns of a range.
+#[unsafe(no_mangle)]
+pub extern "C" fn cbgrid_kernel_kept_apply_columns(
+    alloc: Global,
+    a: Lent,
+    function: u32,
+    number: u64,
+    first: u32,
+    end: u32,
+    out: &mut Owned,
+) -> u32
+    ensures { IsSelectionColumnsCall (function_of function number) first end (a.kept.now ∷ []) result out.old out.new }
+{
+    let (operands, selection) = ([borrowed(a)], function_of(function, number));
+    selection_columns_kept(alloc, selection, &operands, first, end, out)
+}
+
+/// The entries of a kept matrix at the places where a kept mask has none, in the columns of a range.
+#[unsafe(no_mangle)]
+pub extern "C" fn cbgrid_kernel_kept_exclude_columns(
+    alloc: Global,
+    a: Lent,
+    mask: Lent,
+    first: u32,
+    end: u32,
+    out: &mut Owned,
+) -> u32
+    ensures { IsSelectionColumnsCall (Some selection_is.Exclude) first end (a.kept.now ∷ mask.kept.now ∷ []) result out.old out.new }
+{
+    let (operands, exclude) = ([borrowed(a), borrowed(mask)], Some(Selection::Exclude));
+    selection_columns_kept(alloc, exclude, &operands, first, end, out)
+}
+
+/// The columns of a range of a kept matrix, updated at all places by a new one.
+#[unsafe(no_mangle)]
+pub extern "C" fn cbgrid_kernel_kept_update_columns(
+    alloc: Global,
+    a: Lent,
+    b: Lent,
+    flags: u32,
+    first: u32,
+    end: u32,
+    out: &mut Owned,
+) -> u32
+    ensures { IsUpdateColumnsCall (write_back_of flags) first end a.kept.now b.kept.now None result out.old out.new }
+{
+    let (how, a, b) = (write_back_of(flags), borrowed(a), borrowed(b));
+    update_columns_kept(alloc, how, a, b, None, first, end, out)
+}
+
+/// The same, updated at the places that a kept mask allows.
+#[unsafe(no_mangle)]
+pub extern "C" fn cbgrid_kernel_kept_update_masked_columns(
+    alloc: Global,
+    a: Lent,
+    b: Lent,
+    mask: Lent,
+    flags: u32,
+    first: u32,
+    end: u32,
+    out: &mut Owned,
+) -> u32
+    ensures { IsUpdateColumnsCall (write_back_of flags) first end a.kept.now b.kept.now (Some mask.kept.now) result out.old out.new }
+{
+    let (how, a, b) = (write_back_of(flags), borrowed(a), borrowed(b));
+    let allowed = Some(borrowed(mask));
+    update_columns_kept(alloc, how, a, b, allowed, first, end, out)
 }
 
 /// Parts the columns of the product of two kept matrices into ranges that take about as many products of two values, as many

@@ -1,5 +1,5 @@
 -- The first fault of a selection from kept matrices.
-use Rattle.std.proofs.Common.{◌≡◌, ◌≤◌, List, map, refl, sym, ap, subst, inl, inr, arith}
+use Rattle.std.proofs.Common.{◌≡◌, ℕ, ◌≤◌, List, map, refl, sym, ap, subst, inl, inr, arith}
 use Rattle.std.specs.Prelude.{Option, Some, None}
 use Rattle.cb_semirings.specs.declared.names.SemiringName.{SemiringName}
 use Rattle.cb_semirings.specs.Names.{arithmetic_of}
@@ -13,7 +13,8 @@ use Rattle.cb_selections.specs.SelectionFaults.{IsFaultOf}
 use Rattle.cb_kept.specs.declared.faults.Fault.TheVariants.{Test, Mixed}
 use Rattle.cb_kept.specs.declared.kept.Kept.{Kept}
 use Rattle.cb_kept.specs.Kept.{Keeps, AreOver, semiring_in, matrix_in}
-use Rattle.cb_kept.specs.KeptSelections.{HasSelected, selection_faults}
+use Rattle.cb_shares.specs.Shares.{panel}
+use Rattle.cb_kept.specs.KeptSelections.{HasSelected, HasSelectedColumns, selection_faults}
 use Rattle.cb_kept.specs.Answers.{NoFault}
 use Rattle.cb_kept.specs.Refusals.{refused_as, selection_fault_of}
 use Rattle.cb_kept.proofs.Firsts.{passed, no_more}
@@ -37,13 +38,18 @@ module _ (o : Selection) (ks : List Kept) where
     selection_fault Memory h =
         inr (subst (λ n. AreOver n ks) e over, inr (subst (λ n. Suits o (arithmetic_of n) (shapes_in (map matrix_in ks))) e h, refl))
 
-    -- its result
-    pub selected_kept : (k : Kept) → Suits o (arithmetic_of name) (shapes_in (map matrix_in ks)) → Keeps name (answer_of o (arithmetic_of name) (map matrix_in ks)) k → NoFault (selection_faults (Some o) ks) × HasSelected (Some o) ks k
+    -- no fault, if it suits them
+    pub none_of_selection : Suits o (arithmetic_of name) (shapes_in (map matrix_in ks)) → NoFault (selection_faults (Some o) ks)
     unfolding selection_faults
-    selected_kept k suits h = (
-      passed _ Mixed _ (subst (λ n. AreOver n ks) e over) (passed _ (refused_as (refusal_of o)) _ (subst (λ n. Suits o (arithmetic_of n) (shapes_in (map matrix_in ks))) e suits) no_more),
-      subst (λ n. Keeps n (answer_of o (arithmetic_of n) (map matrix_in ks)) k) e h,
-    )
+    none_of_selection suits =
+        passed _ Mixed _ (subst (λ n. AreOver n ks) e over) (passed _ (refused_as (refusal_of o)) _ (subst (λ n. Suits o (arithmetic_of n) (shapes_in (map matrix_in ks))) e suits) no_more)
+
+    -- its result, and some columns of it
+    pub selected_kept : (k : Kept) → Keeps name (answer_of o (arithmetic_of name) (map matrix_in ks)) k → HasSelected (Some o) ks k
+    selected_kept k h = subst (λ n. Keeps n (answer_of o (arithmetic_of n) (map matrix_in ks)) k) e h
+
+    pub selected_columns : (first end : ℕ) (k : Kept) → Keeps name (panel (answer_of o (arithmetic_of name) (map matrix_in ks)) first end) k → HasSelectedColumns (Some o) first end ks k
+    selected_columns first end k h = subst (λ n. Keeps n (panel (answer_of o (arithmetic_of n) (map matrix_in ks)) first end) k) e h
 
 -- no region, function or power has the number
 pub no_selection : (o : Option Selection) (ks : List Kept) → o ≡ None → selection_faults o ks Test

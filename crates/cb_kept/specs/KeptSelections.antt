@@ -13,6 +13,7 @@ use Rattle.cb_operations.specs.declared.selections.Selection.TheVariants.{Select
 use Rattle.cb_operations.specs.OperationAnswers.{shapes_in}
 use Rattle.cb_operations.specs.SelectionAnswers.{Suits, answer_of, refusal_of}
 use Rattle.cb_selections.specs.Extracted.{extracted}
+use Rattle.cb_shares.specs.Shares.{panel}
 use Rattle.cb_kept.specs.declared.faults.Fault.{Fault}
 use Rattle.cb_kept.specs.declared.faults.Fault.TheVariants.{Test, TooLarge, Place, Mixed}
 use Rattle.cb_kept.specs.declared.kept.Kept.{Kept}
@@ -61,6 +62,12 @@ selection_faults (Some selection) ks =
 abbrev pub HasSelected : Option Selection → List Kept → Kept → Type 0
 HasSelected None ks k = ⊥
 HasSelected (Some selection) ks k = Keeps (semiring_in ks) (answer_of selection (arithmetic_of (semiring_in ks)) (map matrix_in ks)) k
+
+-- the columns of a range of it
+abbrev pub HasSelectedColumns : Option Selection → ℕ → ℕ → List Kept → Kept → Type 0
+HasSelectedColumns None first end ks k = ⊥
+HasSelectedColumns (Some selection) first end ks k =
+    Keeps (semiring_in ks) (panel (answer_of selection (arithmetic_of (semiring_in ks)) (map matrix_in ks)) first end) k
 
 -- the result of f on a kept matrix, kept over its semiring
 abbrev pub IsKeptMade : (Arithmetic → Sparse → Sparse) → Kept → Kept → Type 0

@@ -6,6 +6,7 @@ use Rattle.cb_semirings.specs.declared.names.SemiringName.{SemiringName}
 use Rattle.cb_matrix.specs.Sparse.{Sparse, Extent}
 use Rattle.cb_selections.specs.declared.updates.WriteBack.{WriteBack}
 use Rattle.cb_selections.specs.Updates.{updated}
+use Rattle.cb_shares.specs.Shares.{panel}
 use Rattle.cb_kept.specs.declared.faults.Fault.{Fault}
 use Rattle.cb_kept.specs.declared.faults.Fault.TheVariants.{Test, Shapes, Mixed}
 use Rattle.cb_kept.specs.declared.kept.Kept.{Kept}
@@ -41,6 +42,15 @@ abbrev pub HasUpdated : Option WriteBack → Kept → Kept → Option Kept → K
 HasUpdated None old new mask made = ⊥
 HasUpdated (Some how) old new mask made = Keeps (semiring_of old) (updated_in (arithmetic_of (semiring_of old)) how old new mask) made
 
--- what an update returns
+-- the columns of a range of it
+abbrev pub HasUpdatedColumns : Option WriteBack → ℕ → ℕ → Kept → Kept → Option Kept → Kept → Type 0
+HasUpdatedColumns None first end old new mask made = ⊥
+HasUpdatedColumns (Some how) first end old new mask made =
+    Keeps (semiring_of old) (panel (updated_in (arithmetic_of (semiring_of old)) how old new mask) first end) made
+
+-- what an update returns, and one of the columns of a range
 abbrev pub IsUpdate : Option WriteBack → Kept → Kept → Option Kept → Result Kept Fault → Type 0
 IsUpdate how old new mask = IsAnswer (update_faults how old new mask) (HasUpdated how old new mask)
+
+abbrev pub IsUpdateOfColumns : Option WriteBack → ℕ → ℕ → Kept → Kept → Option Kept → Result Kept Fault → Type 0
+IsUpdateOfColumns how first end old new mask = IsAnswer (update_faults how old new mask) (HasUpdatedColumns how first end old new mask)

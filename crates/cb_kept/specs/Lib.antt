@@ -3,7 +3,7 @@
 -- Triples: matrices of triples. KeptTexts: texts of kept matrices. KeptGraphs: searches, parents, components and triangles
 -- of kept graphs. KeptSelections: selections from kept matrices. KeptProducts: products outside a mask. KeptTurned: products
 -- of transposes. KeptPanels: products in panels. KeptUpdates: one updated by another, under a mask. KeptDegrees: how
--- many entries rows and columns have.
+-- many entries rows and columns have. Misfits: what a fault of lists or triples is about.
 pub mod Refusals
 pub mod Answers
 pub mod Kept
@@ -18,3 +18,4 @@ pub mod KeptDegrees
 pub mod KeptProducts
 pub mod KeptPanels
 pub mod KeptShares
+pub mod Misfits

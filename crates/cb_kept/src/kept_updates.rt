@@ -52,7 +52,12 @@ fn have_shape(shape: Shape, new: &Kept, mask: Option<&Kept>) -> bool
 }
 
 /// Refuses matrices over different semirings, and of different shapes.
-fn check_update(how: WriteBack, old: &Kept, new: &Kept, mask: Option<&Kept>) -> Result<(), Fault>
+pub(crate) fn check_update(
+    how: WriteBack,
+    old: &Kept,
+    new: &Kept,
+    mask: Option<&Kept>,
+) -> Result<(), Fault>
     ensures over { IfOk result (λ _. HaveSemiring (semiring_of old.now) new.now (option_copied mask.entry)) }
     ensures shape { IfOk result (λ _. HaveShape (matrix_in old.now).shape new.now (option_copied mask.entry)) }
     ensures none { IfOk result (λ _. NoFault (update_faults (Some how) old.now new.now (option_copied mask.entry))) }

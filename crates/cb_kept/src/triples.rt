@@ -39,7 +39,7 @@ fn entries_of(alloc: Global, triples: &[Triple]) -> Result<Vec<Entry>, AllocErro
 }
 
 /// Whether all places are inside a shape.
-fn are_within(shape: Shape, triples: &[Triple]) -> bool
+pub(crate) fn are_within(shape: Shape, triples: &[Triple]) -> bool
     ensures { IsTrue result ↔ AreWithin shape triples.now }
 {
     let (rows, cols) = (shape.rows(), shape.cols());

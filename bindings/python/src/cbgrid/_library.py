@@ -103,16 +103,20 @@ class CbgridError(Exception):
         The code in a few words.
     line : int or None
         The line of the first fault of a text that can't be read, counted from 1.
+    entry : int or None
+        Which triple, entry of a csc or csr matrix, or source of several is the first that isn't allowed, counted from 0.
     """
 
-    def __init__(self, code: int, message: str, line: int | None = None) -> None:
-        super().__init__(message if line is None else f"line {line}: {message}")
+    def __init__(self, code: int, message: str, line: int | None = None, entry: int | None = None) -> None:
+        places = [f"{name} {it}: " for name, it in (("line", line), ("entry", entry)) if it is not None]
+        super().__init__("".join(places) + message)
         self.code = code
         self.message = message
         self.line = line
+        self.entry = entry
 
     def __reduce__(self) -> tuple:
-        return type(self), (self.code, self.message, self.line)
+        return type(self), (self.code, self.message, self.line, self.entry)
 
 
 class CbgridValueError(CbgridError, ValueError):
@@ -123,7 +127,7 @@ class CbgridMemoryError(CbgridError, MemoryError):
     """Memory could not be allocated."""
 
 
-def error(code: int, message: str | None = None, line: int | None = None) -> CbgridError:
+def error(code: int, message: str | None = None, line: int | None = None, entry: int | None = None) -> CbgridError:
     """The exception of a code, with the library's message or a more specific one."""
     kind = CbgridMemoryError if code == MEMORY else CbgridValueError
-    return kind(code, message or library.cbgrid_message(code).decode("ascii"), line)
+    return kind(code, message or library.cbgrid_message(code).decode("ascii"), line, entry)

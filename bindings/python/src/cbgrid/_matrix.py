@@ -10,7 +10,8 @@ import numpy as np
 import scipy.sparse
 
 from . import _lists
-from ._library import FORMAT, LENGTHS, LIMIT, ORDER, PLACE, SEMIRING, SHAPES, TEST, TOO_LARGE, VALUE, How, Text, error, library
+from ._library import FORMAT, LENGTHS, LIMIT, ORDER, PLACE, SEMIRING, SHAPES, SOURCE, TEST, TOO_LARGE, VALUE
+from ._library import How, Text, error, library
 
 # The semirings in the order of their numbers.
 _NAMES = (
@@ -169,10 +170,10 @@ class Matrix:
             raise error(LENGTHS)
         triples = np.empty(len(rows), _TRIPLE)
         triples["row"], triples["column"], triples["value"] = rows, columns, values
-        out = _void()
-        code = library.cbgrid_matrix_of_triples(number, nrows, ncols, triples.ctypes.data, len(triples), _byref(out))
+        at, out = ctypes.c_uint64(), _void()
+        code = library.cbgrid_matrix_of_triples(number, nrows, ncols, triples.ctypes.data, len(triples), at, _byref(out))
         if code:
-            raise error(code)
+            raise error(code, entry=at.value if code in (PLACE, VALUE) else None)
         return cls._of(out.value, number)
 
     def _give(self) -> int | None:
@@ -276,7 +277,7 @@ class Matrix:
     def _extracted(self, rows: np.ndarray, columns: np.ndarray) -> Matrix:
         rows, columns = (np.ascontiguousarray(it, np.uint32) for it in (rows, columns))
         lists = rows.ctypes.data, len(rows), columns.ctypes.data, len(columns)
-        return self._made(library.cbgrid_matrix_extract, *lists)
+        return self._made(library.cbgrid_matrix_extract, *lists, None)
 
     def _lists(self) -> _lists.Answer:
         """A copy of the lists of the columns."""
@@ -813,11 +814,11 @@ class Matrix:
         call = library.cbgrid_matrix_row_degrees if axis else library.cbgrid_matrix_column_degrees
         return self._made(call, number=SEMIRINGS["plus-times"])
 
-    def _made(self, call: Any, *arguments: Any, number: int | None = None) -> Matrix:
+    def _made(self, call: Any, *arguments: Any, number: int | None = None, at: Any = None) -> Matrix:
         out = _void()
         code = call(self._at, *arguments, _byref(out))
         if code:
-            raise error(code)
+            raise error(code, entry=at.value if at is not None and code == SOURCE else None)
         return Matrix._of(out.value, self._number if number is None else number)
 
     def _operand(self, other: Any) -> Matrix | None:
@@ -930,7 +931,8 @@ class Matrix:
     def _walks(self, is_levels: bool, sources: np.ndarray) -> Matrix:
         """The levels or distances from several sources, over min-plus: a row for each source."""
         call = library.cbgrid_matrix_levels_from if is_levels else library.cbgrid_matrix_distances_from
-        return self._made(call, sources.ctypes.data, len(sources), number=1).T
+        at = ctypes.c_uint64()
+        return self._made(call, sources.ctypes.data, len(sources), at, number=1, at=at).T
 
     def _walk_given(self, is_levels: bool, vertices: Any, numbers: Any) -> tuple[np.ndarray, np.ndarray]:
         """The vertices that are reached from initial values, and their levels or distances from these."""
@@ -1119,14 +1121,15 @@ def kept(matrix: Any, number: int, turned: bool = False, unsigned: bool = False,
 
     Only if the kernel finds that its entries aren't sorted, sorts a copy and calls again.
     """
-    code, out = ORDER, _void()
+    code, at, out = ORDER, ctypes.c_uint64(), _void()
     for in_order in (False, True):
         if code == ORDER:
             lent = _lists.lend(matrix, turned, unsigned, nonzero, in_order)
             call = library.cbgrid_matrix_of_rows if lent.by_rows else library.cbgrid_matrix_of_columns
-            code = call(number, lent, _byref(out))
+            code = call(number, lent, at, _byref(out))
+            is_given = not in_order and getattr(matrix, "format", "coo") != "coo"
     if code:
-        raise error(code)
+        raise error(code, entry=at.value if is_given and code in (PLACE, VALUE) else None)
     return Matrix._of(out.value, number)
 
 

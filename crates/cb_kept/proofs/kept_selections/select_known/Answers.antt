@@ -2,7 +2,7 @@ use Rattle.std.proofs.Common.{sym, subst}
 use Rattle.std.specs.Prelude.{Some}
 use Rattle.cb_operations.specs.Operands.{lent_in}
 use Rattle.cb_kept.specs.KeptSelections.{selection_faults}
-use Rattle.cb_kept.proofs.SelectionFirsts.{mixed_matrices, selection_fault, selected_kept}
+use Rattle.cb_kept.proofs.SelectionFirsts.{mixed_matrices, none_of_selection, selection_fault, selected_kept}
 use Rattle.cb_kept.proofs.kept_selections.select_known.Goals as goal
 
 pub returns-in_default : goal.returns-in_default
@@ -10,8 +10,9 @@ returns-in_default c = mixed_matrices c.args.selection (lent_in c.args.operands.
 
 pub returns-in-Ok : goal.returns-in-Ok
 returns-in-Ok c =
+    let ks = lent_in c.args.operands.now in
     let k = c.in-Some.ensures in
-    selected_kept c.args.selection (lent_in c.args.operands.now) c.in-Some.semiring k.first k.over c.in-Ok.kept c.in-Ok.ensures.suits c.in-Ok.ensures.ok
+    (none_of_selection c.args.selection ks c.in-Some.semiring k.first k.over c.in-Ok.ensures.suits, selected_kept c.args.selection ks c.in-Some.semiring k.first k.over c.in-Ok.kept c.in-Ok.ensures.ok)
 
 pub returns-in-Err : goal.returns-in-Err
 returns-in-Err c =
