@@ -1,5 +1,6 @@
 //! From the blocks of a matrix to panels of whole columns.
-ghost use Rattle.std.specs.Prelude.{◌≡◌, ◌<◌, ◌≤◌, ◌*◌, IfOk};
+ghost use Rattle.std.specs.Prelude.{◌≡◌, ◌<◌, ◌*◌, [], ◌∷◌, IfOk};
+ghost use Rattle.cb_plan_parts.specs.PlanParts.{operand_starts};
 
 use crate::starts::{add_up, checked};
 use cb_grid::Grid;
@@ -93,6 +94,7 @@ pub fn panels_plan(
     shape: Shape,
 ) -> Result<(CheckedPlan, u16), PlanFault>
     ensures ranks { IfOk result (λ planned. planned.0.ranks ≡ grid.now.side * grid.now.side) }
+    ensures starts { IfOk result (λ planned. planned.0.starts ≡ operand_starts grid.now.side (record { slot = 0; shape = shape } ∷ [])) }
     ensures slot { IfOk result (λ planned. planned.1 < SLOTS) }
 {
     let side = grid.side();

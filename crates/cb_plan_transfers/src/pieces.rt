@@ -1,5 +1,6 @@
 //! From the pieces of a text to the blocks of a matrix.
 ghost use Rattle.std.specs.Prelude.{◌≡◌, ◌<◌, ◌*◌, IfOk};
+ghost use Rattle.cb_plan_transfers.specs.WholeStarts.{all_whole};
 
 use crate::starts::{add_up, checked, whole_starts};
 use cb_grid::Grid;
@@ -64,6 +65,7 @@ pub fn pieces_plan(
     shape: Shape,
 ) -> Result<(CheckedPlan, u16), PlanFault>
     ensures ranks { IfOk result (λ planned. planned.0.ranks ≡ grid.now.side * grid.now.side) }
+    ensures starts { IfOk result (λ planned. planned.0.starts ≡ all_whole grid.now.side shape) }
     ensures slot { IfOk result (λ planned. planned.1 < SLOTS) }
 {
     let ranks = grid.ranks();

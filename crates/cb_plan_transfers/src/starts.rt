@@ -1,8 +1,7 @@
 //! The slots with which these plans begin, their sums, and their check.
 ghost use Rattle.std.specs.Prelude.{◌≡◌, ◌<◌, ◌*◌, All, AllPairs, true, IfOk};
-ghost use Rattle.std.specs.List.{range_with_len, flat_map};
 ghost use Rattle.cb_plan.specs.Plans.{IsElsewhere};
-ghost use Rattle.cb_plan_transfers.specs.WholeStarts.{whole_start};
+ghost use Rattle.cb_plan_transfers.specs.WholeStarts.{all_whole};
 
 use cb_grid::Grid;
 use cb_matrix::Shape;
@@ -15,6 +14,7 @@ pub(crate) fn whole_starts(
     grid: &Grid,
     shape: Shape,
 ) -> Result<Vec<Start>, AllocError>
+    ensures starts { IfOk result (λ v. v.items ≡ all_whole grid.now.side shape) }
     ensures exist { IfOk result (λ v. All (λ s. (s.rank < grid.now.side * grid.now.side) × (s.slot < SLOTS)) v.items) }
     ensures once { IfOk result (λ v. AllPairs IsElsewhere v.items) }
 {
@@ -54,7 +54,8 @@ pub(crate) fn checked(
     requires ranks { plan.ranks ≡ grid.now.side * grid.now.side }
     requires exist { All (λ s. (s.rank < grid.now.side * grid.now.side) × (s.slot < SLOTS)) starts.now }
     requires once { AllPairs IsElsewhere starts.now }
-    ensures { IfOk result (λ checked. checked.ranks ≡ grid.now.side * grid.now.side) }
+    ensures ranks { IfOk result (λ checked. checked.ranks ≡ grid.now.side * grid.now.side) }
+    ensures starts { IfOk result (λ checked. checked.starts ≡ starts.now) }
 {
     let _ranks = grid.ranks();
     match CheckedPlan::check(alloc, plan, starts) {

@@ -7,12 +7,16 @@ use Rattle.cb_lists.specs.declared.lists.Columns.{Columns}
 use Rattle.cb_messages.specs.declared.heads.Head.{Head}
 use Rattle.cb_messages.specs.Messages.{IsLetterOf}
 use Rattle.cb_plan.specs.declared.stores.Slot.{Slot}
+use Rattle.cb_plan.specs.declared.stores.Slot.TheVariants as slot_is
+use Rattle.cb_plan.specs.declared.stores.TheConstants.{SLOTS}
 use Rattle.cb_plan.specs.Plans.{CheckedView}
+use Rattle.cb_rank_process.specs.declared.faults.ProcessFault.{ProcessFault}
+use Rattle.cb_rank_process.specs.declared.faults.ProcessFault.TheVariants as fault_is
 use Rattle.cb_rank_process.specs.declared.processes.TheConstants.{REGISTERS}
 use Rattle.cb_rank.specs.declared.wants.Want.{Want}
 use Rattle.cb_rank.specs.declared.wants.Want.TheVariants.{Done}
 use Rattle.cb_rank.specs.Ranks.{next_half, want_of}
-use Rattle.cb_rank_driven.specs.DrivenRanks.{DrivenView, HasDoneNothing, Posts, Takes}
+use Rattle.cb_rank_driven.specs.DrivenRanks.{CanStart, DrivenView, HasDoneNothing, Posts, Takes}
 
 -- a matrix that is cut over the grid: its shape, and the block of this process
 pub record KeptView : Type 0 where
@@ -67,12 +71,28 @@ with_registers x registers = process_view x.side x.me registers x.task x.unsent
 abbrev pub given_up : ℕ → List (Option KeptView) → List (Option KeptView)
 given_up n registers = slice_set registers n None
 
+-- all slots are empty
+abbrev pub no_slots : List (Slot Sparse)
+no_slots = replicate SLOTS slot_is.Empty
+
 -- a process begins a plan, of which its rank, with these slots, has done nothing yet
 pub record Starts (plan : CheckedView) (slot : ℕ) (shape : Extent) (slots : List (Slot Sparse)) (x y : ProcessView) : Type 0 where
   pub rank : DrivenView
   pub new_rank : HasDoneNothing plan x.me rank
   pub first : rank.first ≡ slots
   pub after : y ≡ with_task x (Some (record { rank = rank; slot = slot; shape = shape }))
+
+-- why a plan isn't begun by a rank with these slots: they aren't those with which it begins there, or memory was refused
+abbrev pub IsStartFault : CheckedView → ℕ → List (Slot Sparse) → ProcessFault → Type 0
+IsStartFault plan me slots fault_is.Absent = CanStart plan me slots → ⊥
+IsStartFault plan me slots fault_is.Memory = Unit {0}
+IsStartFault plan me slots fault = ⊥
+
+-- why nothing is done with the matrix in a register: there is none, or memory was refused
+abbrev pub IsLackAt : ProcessView → ℕ → ProcessFault → Type 0
+IsLackAt x register fault_is.Absent = register_at x register ≡ None
+IsLackAt x register fault_is.Memory = Unit {0}
+IsLackAt x register fault = ⊥
 
 -- the same plan, further on
 abbrev pub with_rank : TaskView → DrivenView → TaskView

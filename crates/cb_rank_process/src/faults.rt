@@ -1,7 +1,7 @@
 //! Why a call of a process isn't done.
 use cb_messages::MessageFault;
 use cb_plan::PlanFault;
-use cb_rank_driven::{Refusal, StartFault};
+use cb_rank_driven::Refusal;
 use std::alloc::AllocError;
 
 /// Why a call of a process isn't done.
@@ -24,6 +24,11 @@ pub enum ProcessFault {
 }
 
 impl From<AllocError> for ProcessFault {
+    ghost use Rattle.std.specs.Prelude.{◌≡◌};
+    ghost use Rattle.cb_rank_process.specs.declared.faults.ProcessFault.TheVariants.{Memory};
+
+    ghost from_gives = { λ _ fault. fault ≡ Memory };
+
     fn from(_error: AllocError) -> ProcessFault {
         ProcessFault::Memory
     }
@@ -39,15 +44,6 @@ impl From<Refusal> for ProcessFault {
     }
 }
 
-impl From<StartFault> for ProcessFault {
-    fn from(fault: StartFault) -> ProcessFault {
-        match fault {
-            StartFault::Unfit => ProcessFault::Absent,
-            StartFault::Memory => ProcessFault::Memory,
-        }
-    }
-}
-
 impl From<MessageFault> for ProcessFault {
     fn from(fault: MessageFault) -> ProcessFault {
         match fault {
@@ -58,6 +54,11 @@ impl From<MessageFault> for ProcessFault {
 }
 
 impl From<PlanFault> for ProcessFault {
+    ghost use Rattle.std.specs.Prelude.{◌≡◌};
+    ghost use Rattle.cb_rank_process.specs.declared.faults.ProcessFault.TheVariants.{Memory};
+
+    ghost from_gives = { λ _ fault. fault ≡ Memory };
+
     fn from(_fault: PlanFault) -> ProcessFault {
         ProcessFault::Memory
     }

@@ -19,6 +19,7 @@ mod letters;
 mod operations;
 mod outgoing;
 mod processes;
+mod registers;
 mod texts;
 
 pub use any_process::{AnyMessage, AnyProcess};

@@ -1,25 +1,27 @@
 //! Operations on the matrices of all processes of a grid.
-ghost use Rattle.std.specs.Prelude.{◌≡◌, ◌<◌, ◌≤◌, length, IfOk, OnOk};
+ghost use Rattle.std.specs.Prelude.{◌≡◌, ◌≤◌, length, IfOk, IfErr, OnOk, OnErr};
 ghost use Rattle.cb_operations.specs.OperationAnswers.{operand_count_of};
-ghost use Rattle.cb_rank_process.specs.Processes.{given_up, with_registers};
-ghost use Rattle.cb_rank_process.specs.Begun.{after_giving_up, operand_slots, slot_from};
+ghost use Rattle.cb_rank_process.specs.Begun.{HaveMatrices, IsGatherFault, IsLack, IsOperateFault, Gathers, Operates, OperatesOn, operand_shapes, operand_slots};
 
 use crate::faults::ProcessFault;
-use crate::processes::{Process, put_lent};
+use crate::processes::Process;
 use cb_matrix::Shape;
 use cb_operations::{MOST_OPERANDS, Operation};
-use cb_plan::{RankStore, SLOTS};
+use cb_plan::RankStore;
 use cb_plan_summa::{LEFT, MASK, RIGHT};
 use cb_plan_transfers::panels_plan;
 use cb_planner::plan_of;
 use cb_semirings::Semiring;
-use std::alloc::Global;
+use std::alloc::{AllocError, Global};
 
 impl<S: Semiring> Process<S> {
     /// The shapes of the matrices in the first registers.
     fn shapes(&self, alloc: Global, count: usize) -> Result<Vec<Shape>, ProcessFault>
         requires { count ≤ MOST_OPERANDS }
+        ensures shapes { IfOk result (λ shapes. shapes.items ≡ operand_shapes self.now count) }
         ensures count { IfOk result (λ shapes. length shapes.items ≡ count) }
+        ensures filled { OnOk result (HaveMatrices self.now count) }
+        ensures fault { IfErr result (IsLack self.now count) }
     {
         let mut shapes = Vec::with_capacity(alloc, count)?;
         for n in 0..count {
@@ -33,31 +35,11 @@ impl<S: Semiring> Process<S> {
         Ok(shapes)
     }
 
-    /// Puts the block in a register, which gives it up, into a slot.
-    fn lay(
-        &mut self,
-        alloc: Global,
-        store: &mut RankStore<S>,
-        register: u32,
-        slot: u16,
-    ) -> Result<(), ProcessFault>
-        requires { slot < SLOTS }
-        ensures slots { OnOk result (store.new ≡ slot_from self.old register slot store.old) }
-        ensures given_up { OnOk result (self.new ≡ with_registers self.old (given_up register self.old.registers)) }
-    {
-        let kept = self.take_out(register)?;
-        put_lent(alloc, store, slot, kept.block);
-        Ok(())
-    }
-
-    /// The slots of this rank, with the blocks of the matrices in the first registers, which give them up.
-    fn laid_out(
-        &mut self,
-        alloc: Global,
-        operation: Operation,
-    ) -> Result<RankStore<S>, ProcessFault>
+    /// The slots of this rank, with the blocks of the matrices in the first registers.
+    fn laid_out(&mut self, alloc: Global, operation: Operation) -> Result<RankStore<S>, AllocError>
+        requires { HaveMatrices self.old (operand_count_of operation) }
         ensures slots { IfOk result (λ store. store ≡ operand_slots self.old (operand_count_of operation)) }
-        ensures given_up { OnOk result (self.new ≡ after_giving_up operation self.old) }
+        ensures same { self.new ≡ self.old }
     {
         let count = operation.operand_count();
         let mut store = RankStore::new(alloc)?;
@@ -71,28 +53,41 @@ impl<S: Semiring> Process<S> {
         Ok(store)
     }
 
-    /// Begins an operation on the matrices in the first registers, in order. They give up their matrices.
+    /// Begins an operation on the matrices in the first registers, in order. They give up their matrices. Refused, nothing
+    /// changes.
     ///
     /// All processes of the grid have to begin the same one. [`Process::end`] then keeps this process's block of the answer.
-    pub fn operate(&mut self, alloc: Global, operation: Operation) -> Result<(), ProcessFault> {
+    pub fn operate(&mut self, alloc: Global, operation: Operation) -> Result<(), ProcessFault>
+        ensures begins { OnOk result (Operates operation self.old self.new) }
+        ensures on { OnOk result (OperatesOn S.arithmetic operation self.old self.new) }
+        ensures fault { IfErr result (IsOperateFault operation self.old) }
+        ensures unchanged { OnErr result (self.new ≡ self.old) }
+    {
         if !self.is_free() {
             return Err(ProcessFault::NotNow);
         }
-        let shapes = self.shapes(alloc, operation.operand_count())?;
+        let count = operation.operand_count();
+        let shapes = self.shapes(alloc, count)?;
         let Some(shape) = operation.shape_of(&shapes) else {
             return Err(ProcessFault::Shapes);
         };
         let planned = plan_of(alloc, &self.grid, operation, &shapes)?;
         let (plan, slot) = planned.into_checked();
         let store = self.laid_out(alloc, operation)?;
-        self.begin(alloc, &plan, slot, shape, store)
+        self.begin(alloc, &plan, slot, shape, store)?;
+        self.give_up_first(count);
+        Ok(())
     }
 
     /// Begins to bring a matrix into the order of its text: in the end each process has some whole columns of it, in the shape
     /// of the matrix. By column of the grid, and in it by row, these are the matrix from left to right.
     ///
-    /// The register gives up its matrix.
-    pub fn gather_columns(&mut self, alloc: Global, register: u32) -> Result<(), ProcessFault> {
+    /// The register gives up its matrix. Refused, nothing changes.
+    pub fn gather_columns(&mut self, alloc: Global, register: u32) -> Result<(), ProcessFault>
+        ensures begins { OnOk result (Gathers register self.old self.new) }
+        ensures fault { IfErr result (IsGatherFault register self.old) }
+        ensures unchanged { OnErr result (self.new ≡ self.old) }
+    {
         if !self.is_free() {
             return Err(ProcessFault::NotNow);
         }
@@ -103,6 +98,8 @@ impl<S: Semiring> Process<S> {
         let (plan, slot) = panels_plan(alloc, &self.grid, shape)?;
         let mut store = RankStore::new(alloc)?;
         self.lay(alloc, &mut store, register, 0)?;
-        self.begin(alloc, &plan, slot, shape, store)
+        self.begin(alloc, &plan, slot, shape, store)?;
+        self.give_up(register);
+        Ok(())
     }
 }

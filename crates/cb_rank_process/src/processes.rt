@@ -1,16 +1,14 @@
 //! A process: its matrices, and the plan that it does.
-ghost use Rattle.std.specs.Prelude.{◌≡◌, ◌↔◌, ◌<◌, slice_set, replicate, Some, None, IsTrue, IfSome, IfNone, IfOk, IfErr, OnOk, OnErr};
-ghost use Rattle.cb_plan.specs.declared.stores.Slot.TheVariants.{Sheet};
-ghost use Rattle.cb_rank_process.specs.Processes.{register_at, given_up, with_registers, new_process, IsFree, Starts};
+ghost use Rattle.std.specs.Prelude.{◌≡◌, ◌↔◌, replicate, Some, None, IsTrue, IfSome, IfNone, IfOk, IfErr, OnOk, OnErr};
+ghost use Rattle.cb_rank_process.specs.Processes.{register_at, new_process, IsFree, IsStartFault, Starts};
 ghost use Rattle.cb_rank_process.specs.Kept.{Keeps, IsEndFault};
 
 use crate::faults::ProcessFault;
-use cb_dcsc::Block;
 use cb_grid::Grid;
 use cb_letters::Letter;
 use cb_matrix::Shape;
-use cb_plan::{CheckedPlan, RankStore, SLOTS, SharedBlock};
-use cb_rank_driven::{DrivenRank, NoBlock};
+use cb_plan::{CheckedPlan, RankStore, SharedBlock};
+use cb_rank_driven::{DrivenRank, NoBlock, StartFault};
 use cb_semirings::Semiring;
 use std::alloc::{AllocError, Global};
 use std::marker::Model;
@@ -23,7 +21,7 @@ pub const REGISTERS: u32 = 4;
 #[derive(Drop)]
 pub(crate) struct Kept<S: Semiring> {
     pub(crate) shape: Shape,
-    pub(crate) block: Block<S>,
+    pub(crate) block: SharedBlock<S>,
 }
 
 impl<S: Semiring> Model for Kept<S> {
@@ -109,21 +107,6 @@ impl<S: Semiring> Process<S> {
         }
     }
 
-    /// Takes a matrix out of a register.
-    pub(crate) fn take_out(&mut self, register: u32) -> Result<Kept<S>, ProcessFault>
-        ensures kept { IfOk result (λ kept. register_at self.old register ≡ Some kept) }
-        ensures given_up { OnOk result (self.new ≡ with_registers self.old (given_up register self.old.registers)) }
-        ensures none { OnErr result (self.new ≡ self.old) }
-    {
-        let Some(place) = self.registers.get_mut(register as usize) else {
-            return Err(ProcessFault::Absent);
-        };
-        match place.take() {
-            Some(kept) => Ok(kept),
-            None => Err(ProcessFault::Absent),
-        }
-    }
-
     /// Begins a plan, with these slots of this rank.
     pub(crate) fn begin(
         &mut self,
@@ -134,11 +117,17 @@ impl<S: Semiring> Process<S> {
         store: RankStore<S>,
     ) -> Result<(), ProcessFault>
         ensures started { OnOk result (Starts plan.now slot shape store self.old self.new) }
+        ensures fault { IfErr result (IsStartFault plan.now self.old.me store) }
         ensures unchanged { OnErr result (self.new ≡ self.old) }
     {
-        let rank = DrivenRank::start(alloc, plan, self.me, store)?;
-        self.task = Some(Task { rank, slot, shape });
-        Ok(())
+        match DrivenRank::start(alloc, plan, self.me, store) {
+            Ok(rank) => {
+                self.task = Some(Task { rank, slot, shape });
+                Ok(())
+            }
+            Err(StartFault::Unfit) => Err(ProcessFault::Absent),
+            Err(StartFault::Memory) => Err(ProcessFault::Memory),
+        }
     }
 
     /// Ends the plan, if all its halves are done, and keeps the block that it leaves in a register.
@@ -159,6 +148,7 @@ impl<S: Semiring> Process<S> {
         let Task { rank, slot, shape } = task;
         match rank.finish(slot) {
             Ok(block) => {
+                let block = SharedBlock::new(block);
                 self.registers[register as usize] = Some(Kept { shape, block });
                 Ok(())
             }
@@ -182,18 +172,4 @@ fn empty_registers<S: Semiring>(alloc: Global) -> Result<Vec<Option<Kept<S>>>, A
         registers.push(None)?;
     }
     Ok(registers)
-}
-
-/// Puts a block into a slot, lent if there is memory for that: copies of the slot then share it.
-pub(crate) fn put_lent<S: Semiring>(
-    alloc: Global,
-    store: &mut RankStore<S>,
-    slot: u16,
-    block: Block<S>,
-)
-    requires { slot < SLOTS }
-    ensures { store.new ≡ slice_set store.old slot (Sheet block) }
-{
-    store.put(slot, block);
-    let _ = store.lend(alloc, slot);
 }

@@ -1,16 +1,19 @@
 //! Texts of matrices: a process reads a piece of one, and writes the lines of some columns.
-ghost use Rattle.std.specs.Prelude.{◌≡◌, IfOk};
-ghost use Rattle.cb_rank_process.specs.Texts.{HasCount, IsPieceOf};
+ghost use Rattle.std.specs.Prelude.{◌≡◌, ◌⊎◌, [], ◌∷◌, slice_set, string_bytes, Some, None, IfSome, IfNone, IfOk, IfErr, OnSome, OnErr};
+ghost use Rattle.cb_market_pages.specs.Sheets.{lines_of};
+ghost use Rattle.cb_market_pages.specs.Text.{head_of, header_line, number_line};
+ghost use Rattle.cb_rank_process.specs.Processes.{IsLackAt, given_up, register_at, with_registers};
+ghost use Rattle.cb_rank_process.specs.Texts.{BeginsReading, HasCount, HasHead, IsPieceOf, IsReadFault, WritesLines};
 
 use crate::faults::ProcessFault;
-use crate::processes::{Process, put_lent};
+use crate::processes::{Kept, Process};
 use cb_bases::Based;
 use cb_dcsc::Block;
 use cb_grid::Grid;
 use cb_market::{Opening, read_piece, room_for_entries};
 use cb_market_pages::{Page, TextPages};
 use cb_matrix::Shape;
-use cb_plan::RankStore;
+use cb_plan::{RankStore, SharedBlock};
 use cb_plan_transfers::pieces_plan;
 use cb_semirings::Semiring;
 use std::alloc::{AllocError, Global};
@@ -29,7 +32,8 @@ fn read_block<S: Semiring>(
     opening: &[u8],
     piece: &[u8],
 ) -> Result<(Block<S>, LineCounts), ProcessFault>
-    ensures { IfOk result (λ read. IsPieceOf S.arithmetic opening.now piece.now read.0 read.1) }
+    ensures piece { IfOk result (λ read. IsPieceOf S.arithmetic opening.now piece.now read.0 read.1) }
+    ensures fault { IfErr result (λ f. (f ≡ ProcessFault.Text) ⊎ (f ≡ ProcessFault.Memory)) }
 {
     let Some(opening) = Opening::of::<S>(opening) else {
         return Err(ProcessFault::Text);
@@ -49,7 +53,9 @@ fn read_block<S: Semiring>(
 }
 
 /// The lines of the entries of a block.
-fn lines_of<S: Semiring>(alloc: Global, block: &Block<S>) -> Result<Vec<u8>, AllocError> {
+fn block_lines<S: Semiring>(alloc: Global, block: &Block<S>) -> Result<Vec<u8>, AllocError>
+    ensures { IfOk result (λ text. text.items ≡ lines_of S.arithmetic block.now.entries) }
+{
     let mut pages = TextPages::lines_of(block);
     let mut page = Page::new(alloc)?;
     let mut text = Vec::with_capacity(alloc, block.len().saturating_mul(16))?;
@@ -59,16 +65,53 @@ fn lines_of<S: Semiring>(alloc: Global, block: &Block<S>) -> Result<Vec<u8>, All
     Ok(text)
 }
 
-/// The head of a text: the header, and the size line of a matrix of this shape with this many entries.
-fn head_of(
+/// The same, over the base of its semiring. If memory is refused, the block comes back.
+fn written<S: Based>(
+    alloc: Global,
+    block: SharedBlock<S>,
+) -> Result<Vec<u8>, (SharedBlock<S>, AllocError)>
+    ensures lines { IfOk result (λ text. text.items ≡ lines_of S.arithmetic block.entries) }
+    ensures back { IfErr result (λ refused. refused.0 ≡ block) }
+{
+    let block = over_base::<S>(block.into_block()?);
+    match block_lines(alloc, &block) {
+        Ok(lines) => Ok(lines),
+        Err(error) => Err((SharedBlock::new(over::<S>(block)), error)),
+    }
+}
+
+/// The header of a text without values, or with them, and its line feed.
+fn header(is_pattern: bool) -> &'static [u8]
+    ensures { result.now ≡ header_line is_pattern }
+{
+    if is_pattern {
+        b"%%MatrixMarket matrix coordinate pattern general\n"
+    } else {
+        b"%%MatrixMarket matrix coordinate integer general\n"
+    }
+}
+
+/// The size line of a matrix of this shape with this many entries.
+fn size_line(alloc: Global, shape: Shape, entries: u64) -> Result<String, AllocError>
+    ensures { IfOk result (λ line. string_bytes line ≡ number_line (shape.rows ∷ shape.cols ∷ entries ∷ [])) }
+{
+    let (rows, cols) = (shape.rows(), shape.cols());
+    format!(in alloc; "{rows} {cols} {entries}\n")
+}
+
+/// The head of a text: the header and the size line.
+fn head_text(
     alloc: Global,
     is_pattern: bool,
     shape: Shape,
     entries: u64,
-) -> Result<String, AllocError> {
-    let (rows, cols) = (shape.rows(), shape.cols());
-    let field = if is_pattern { "pattern" } else { "integer" };
-    format!(in alloc; "%%MatrixMarket matrix coordinate {field} general\n{rows} {cols} {entries}\n")
+) -> Result<Vec<u8>, AllocError>
+    ensures { IfOk result (λ head. head.items ≡ head_of is_pattern shape entries) }
+{
+    let size = size_line(alloc, shape, entries)?;
+    let mut head = Vec::from_slice(alloc, header(is_pattern))?;
+    head.extend_from_slice(size.as_bytes())?;
+    Ok(head)
 }
 
 /// A block over the base of a semiring, over the semiring. Nothing is copied.
@@ -99,7 +142,11 @@ impl<S: Based> Process<S> {
         alloc: Global,
         opening: &[u8],
         piece: &[u8],
-    ) -> Result<LineCounts, ProcessFault> {
+    ) -> Result<LineCounts, ProcessFault>
+        ensures begins { IfOk result (λ counts. BeginsReading S.Base.arithmetic opening.now piece.now counts self.old self.new) }
+        ensures fault { IfErr result (IsReadFault self.old) }
+        ensures unchanged { OnErr result (self.new ≡ self.old) }
+    {
         if !self.is_free() {
             return Err(ProcessFault::NotNow);
         }
@@ -107,7 +154,7 @@ impl<S: Based> Process<S> {
         let shape = block.shape();
         let (plan, slot) = pieces_plan(alloc, &self.grid, shape)?;
         let mut store = RankStore::new(alloc)?;
-        put_lent(alloc, &mut store, 0, over::<S>(block));
+        store.put(0, over::<S>(block));
         self.begin(alloc, &plan, slot, shape, store)?;
         Ok(counts)
     }
@@ -122,27 +169,57 @@ impl<S: Based> Process<S> {
         }
     }
 
-    /// The head of the text of the matrix in a register, which has this many entries in all.
-    pub fn head(
-        &self,
-        alloc: Global,
-        register: u32,
-        entries: u64,
-    ) -> Result<Vec<u8>, ProcessFault> {
-        match self.kept(register) {
-            Some(kept) => {
-                let head = head_of(alloc, S::writes_pattern(), kept.shape, entries)?;
-                Ok(head.into_bytes())
-            }
-            None => Err(ProcessFault::Absent),
+    /// The head of the text of the matrix in a register, which has this many entries in all: the header and the size line. With
+    /// the lines of all columns after it, in order, it is the text of the matrix.
+    pub fn head(&self, alloc: Global, register: u32, entries: u64) -> Result<Vec<u8>, ProcessFault>
+        ensures head { IfOk result (λ text. HasHead S.arithmetic self.now register entries text.items) }
+        ensures fault { IfErr result (IsLackAt self.now register) }
+    {
+        let Some(kept) = self.kept(register) else {
+            return Err(ProcessFault::Absent);
+        };
+        let head = head_text(alloc, S::writes_pattern(), kept.shape, entries)?;
+        Ok(head)
+    }
+
+    /// Takes a matrix out of a register.
+    fn take_out(&mut self, register: u32) -> Option<Kept<S>>
+        ensures kept { IfSome result (λ kept. register_at self.old register ≡ Some kept) }
+        ensures given_up { OnSome result (self.new ≡ with_registers self.old (given_up register self.old.registers)) }
+        ensures none { IfNone result (register_at self.old register ≡ None) }
+        ensures unchanged { IfNone result (self.new ≡ self.old) }
+    {
+        match self.registers.get_mut(register as usize) {
+            Some(place) => place.take(),
+            None => None,
         }
     }
 
-    /// The lines of the columns in a register, which gives them up.
-    pub fn lines(&mut self, alloc: Global, register: u32) -> Result<Vec<u8>, ProcessFault> {
-        let kept = self.take_out(register)?;
-        let block = over_base::<S>(kept.block);
-        let lines = lines_of(alloc, &block)?;
-        Ok(lines)
+    /// Puts a matrix into a register, if there is such a one.
+    fn put_back(&mut self, register: u32, kept: Kept<S>)
+        ensures { self.new ≡ with_registers self.old (slice_set self.old.registers register (Some kept)) }
+    {
+        if let Some(place) = self.registers.get_mut(register as usize) {
+            *place = Some(kept);
+        }
+    }
+
+    /// The lines of the columns in a register, which gives them up. Refused, nothing changes.
+    pub fn lines(&mut self, alloc: Global, register: u32) -> Result<Vec<u8>, ProcessFault>
+        ensures lines { IfOk result (λ text. WritesLines S.arithmetic register self.old text.items self.new) }
+        ensures fault { IfErr result (IsLackAt self.old register) }
+        ensures unchanged { OnErr result (self.new ≡ self.old) }
+    {
+        let Some(kept) = self.take_out(register) else {
+            return Err(ProcessFault::Absent);
+        };
+        let Kept { shape, block } = kept;
+        match written(alloc, block) {
+            Ok(lines) => Ok(lines),
+            Err((block, _error)) => {
+                self.put_back(register, Kept { shape, block });
+                Err(ProcessFault::Memory)
+            }
+        }
     }
 }

@@ -7,3 +7,5 @@ mod answers;
 mod calls;
 #[cfg(test)]
 mod crews;
+#[cfg(test)]
+mod refusals;

@@ -1,4 +1,4 @@
-use Rattle.std.proofs.Common.{◌≡◌, ◌*◌, ◌<◌, ℕ, List, [], sym, subst, refl, arith}
+use Rattle.std.proofs.Common.{◌≡◌, ◌*◌, ◌<◌, ℕ, List, [], sym, ap, subst, refl, ◌∙◌, arith}
 use Rattle.std.specs.Prelude.{All, AllPairs}
 use Rattle.std.specs.List.{range_with_len, flat_map}
 use Rattle.std.proofs.lemmas.List.Elements.{All-nil, All-cons}
@@ -33,3 +33,9 @@ returns-clause-exist c =
 pub returns-clause-once : goal.returns-clause-once
 returns-clause-once c =
     subst (λ (ss : List Start). AllPairs IsElsewhere ss) (sym c.loop-rank.invariant) (once c.args.shape c.loop-rank.rank)
+
+pub returns-clause-starts : goal.returns-clause-starts
+returns-clause-starts c =
+    let q = c.args.grid.now.side in
+    let last : c.loop-rank.rank ≡ q * q = omega arith in
+    c.loop-rank.invariant ∙ ap (λ n. flat_map (whole_start c.args.shape) (range_with_len 0 n)) last
