@@ -1,2 +1,6 @@
--- WholeStarts: the starts by which each rank has a whole block.
+-- WholeStarts: the starts by which each rank has a whole block. Rounds: an exchange in rounds, and sums of received blocks.
+-- Pieces: what the plan for reading leaves, and its acts. Panels: the same of the plan for writing.
 pub mod WholeStarts
+pub mod Rounds
+pub mod Pieces
+pub mod Panels

@@ -5,12 +5,15 @@
 //! what it read, and ends with its block. [`panels_plan`] is for writing: each rank begins with its block, and ends with some
 //! whole columns, whose lines are one part of the text.
 //!
-//! Each plan is checked when it is made, so it can be run. What its acts mean isn't stated here.
+//! Each plan is checked when it is made, so it can be run. `specs/Pieces` and `specs/Panels` define what they leave in the slots
+//! of the ranks, and list their acts.
 #![tactic(auto)]
 
 mod panels;
 mod pieces;
+mod rounds;
 mod starts;
+mod works;
 
 pub use panels::panels_plan;
 pub use pieces::pieces_plan;

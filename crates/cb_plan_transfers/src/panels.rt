@@ -1,27 +1,30 @@
 //! From the blocks of a matrix to panels of whole columns.
-ghost use Rattle.std.specs.Prelude.{◌≡◌, ◌<◌, ◌*◌, [], ◌∷◌, IfOk};
+ghost use Rattle.std.specs.Prelude.{◌≡◌, ◌<◌, ◌*◌, ◌/◌, ◌%◌, [], ◌∷◌, flat_map, IfOk, OnOk};
+ghost use Rattle.std.specs.List.{range_with_len};
+ghost use Rattle.cb_grid.specs.Pieces.{piece_start};
+ghost use Rattle.cb_plan_parts.specs.Growth.{Grew};
 ghost use Rattle.cb_plan_parts.specs.PlanParts.{operand_starts};
+ghost use Rattle.cb_plan_operations.specs.VectorPlans.{works, each_works};
+ghost use Rattle.cb_plan_transfers.specs.Panels.{IsPanelsPlan, block_cuts, cuts_at, column_rounds, joined_parts, joined_at};
 
-use crate::starts::{add_up, checked};
+use crate::rounds::exchange_in_rounds;
+use crate::starts::checked;
+use crate::works::{add_up, work};
 use cb_grid::Grid;
 use cb_letters::Tag;
 use cb_matrix::Shape;
-use cb_plan::{Act, CheckedPlan, Op, Plan, PlanFault, SLOTS};
+use cb_plan::{CheckedPlan, Op, Plan, PlanFault, SLOTS};
 use cb_plan_parts::{Operand, operand_starts, shut_all};
 use std::alloc::Global;
 
 /// The tag of the parts of blocks.
 const PARTS: Tag = Tag(1);
 
-/// A rank cuts its block by columns, a part for each rank of its column of the grid: that of row k goes to slot `1 + k`. Its own
-/// goes to slot `1 + side + i`, if it is in row i.
-fn cut_block(plan: &mut Plan, grid: &Grid, shape: Shape, i: u32, j: u32) -> Result<(), PlanFault>
-    requires row { i < grid.now.side }
-    requires column { j < grid.now.side }
-    ensures { plan.new.ranks ≡ plan.old.ranks }
+/// A rank cuts its block, of this shape, by columns, a part for each rank of its column of the grid: that of row k goes to slot
+/// `1 + k`.
+fn cut_block(plan: &mut Plan, grid: &Grid, block: Shape, rank: u16) -> Result<(), PlanFault>
+    ensures acts { OnOk result (Grew (works rank (block_cuts grid.now.side block)) plan.old plan.new) }
 {
-    let rank = grid.rank(i, j);
-    let block = grid.block_shape(shape, rank);
     for k in 0..grid.side() {
         let op = Op::Cut {
             a: 0,
@@ -29,58 +32,83 @@ fn cut_block(plan: &mut Plan, grid: &Grid, shape: Shape, i: u32, j: u32) -> Resu
             cols: grid.range(block.cols(), k),
             into: 1 + k as u16,
         };
-        plan.push(Act::Work { rank, op })?;
-    }
-    let op = Op::Copy {
-        a: 1 + i as u16,
-        into: 1 + grid.side() as u16 + i as u16,
-    };
-    plan.push(Act::Work { rank, op })
-}
-
-/// The ranks of a column of the grid exchange these parts: the part of row i's block is then in slot `1 + side + i`.
-fn exchange(plan: &mut Plan, grid: &Grid, j: u32) -> Result<(), PlanFault>
-    requires { j < grid.now.side }
-    ensures { plan.new.ranks ≡ plan.old.ranks }
-{
-    let side = grid.side();
-    for distance in 1..side {
-        for i in 0..side {
-            let k = (i + distance) % side;
-            plan.push(Act::Move {
-                from: grid.rank(i, j),
-                to: grid.rank(k, j),
-                tag: PARTS,
-                slot: 1 + k as u16,
-                into: 1 + side as u16 + i as u16,
-            })?;
-        }
+        work(plan, rank, op)?;
     }
     Ok(())
 }
 
-/// A rank places the parts that it has in the whole shape, and adds them up.
-fn join_parts(plan: &mut Plan, grid: &Grid, shape: Shape, k: u32, j: u32) -> Result<(), PlanFault>
-    requires row { k < grid.now.side }
-    requires column { j < grid.now.side }
-    ensures { plan.new.ranks ≡ plan.old.ranks }
+/// Each rank cuts its block of a matrix of this shape.
+fn cut_blocks(plan: &mut Plan, grid: &Grid, shape: Shape) -> Result<(), PlanFault>
+    ensures acts { OnOk result (Grew (each_works grid.now.side (cuts_at grid.now.side shape)) plan.old plan.new) }
+{
+    for rank in 0..grid.ranks() {
+        let block = grid.block_shape(shape, rank);
+        cut_block(plan, grid, block, rank)?;
+    }
+    Ok(())
+}
+
+/// The ranks of each column of the grid exchange what they cut: that of row i's block is then in slot `1 + side + i`.
+fn exchange_parts(plan: &mut Plan, alloc: Global, grid: &Grid) -> Result<(), PlanFault>
+    ensures acts { OnOk result (Grew (flat_map (column_rounds grid.now.side) (range_with_len 0 grid.now.side)) plan.old plan.new) }
 {
     let side = grid.side();
-    let rank = grid.rank(k, j);
-    let (column, end) = grid.range(shape.cols(), j);
-    let (within, _end) = grid.range(end.saturating_sub(column), k);
+    for j in 0..side {
+        let group = grid.column_group(alloc, j);
+        exchange_in_rounds(plan, group.as_slice(), PARTS, 1, 1 + side as u16)?;
+    }
+    Ok(())
+}
+
+/// A rank places the parts that it has in the whole shape, their columns from this one on, and adds them up.
+fn join_parts(
+    plan: &mut Plan,
+    grid: &Grid,
+    shape: Shape,
+    left: u32,
+    rank: u16,
+) -> Result<(), PlanFault>
+    ensures acts { OnOk result (Grew (works rank (joined_parts grid.now.side shape left)) plan.old plan.new) }
+{
+    let side = grid.side();
+    let first = 1 + side as u16;
     for i in 0..side {
-        let (row, _end) = grid.range(shape.rows(), i);
-        let slot = 1 + side as u16 + i as u16;
+        let (top, _end) = grid.range(shape.rows(), i);
+        let slot = first + i as u16;
         let op = Op::Place {
             a: slot,
             shape,
-            at: (row, column.saturating_add(within)),
+            at: (top, left),
             into: slot,
         };
-        plan.push(Act::Work { rank, op })?;
+        work(plan, rank, op)?;
     }
-    add_up(plan, rank, 1 + side as u16, side as u16)
+    add_up(plan, rank, first, side as u16)?;
+    Ok(())
+}
+
+/// The first column of a rank's panel of a matrix with this many columns.
+fn first_column(grid: &Grid, cols: u32, rank: u16) -> u32
+    requires { rank < grid.now.side * grid.now.side }
+    ensures { result ≡ piece_start grid.now.side cols (rank % grid.now.side) (rank / grid.now.side) }
+{
+    let side = grid.side();
+    let number = u32::from(rank);
+    let (start, _end) = grid.range(cols, number % side);
+    let width = grid.part_length(cols, number % side);
+    let (within, _end) = grid.range(width, number / side);
+    start + within
+}
+
+/// Each rank puts together what it received.
+fn join_all(plan: &mut Plan, grid: &Grid, shape: Shape) -> Result<(), PlanFault>
+    ensures acts { OnOk result (Grew (each_works grid.now.side (joined_at grid.now.side shape)) plan.old plan.new) }
+{
+    for rank in 0..grid.ranks() {
+        let left = first_column(grid, shape.cols(), rank);
+        join_parts(plan, grid, shape, left, rank)?;
+    }
+    Ok(())
 }
 
 /// The plan by which the ranks, which have the blocks of a matrix of this shape in slot 0, get panels of it, and the slot in
@@ -96,22 +124,14 @@ pub fn panels_plan(
     ensures ranks { IfOk result (λ planned. planned.0.ranks ≡ grid.now.side * grid.now.side) }
     ensures starts { IfOk result (λ planned. planned.0.starts ≡ operand_starts grid.now.side (record { slot = 0; shape = shape } ∷ [])) }
     ensures slot { IfOk result (λ planned. planned.1 < SLOTS) }
+    ensures panels { IfOk result (λ planned. IsPanelsPlan planned.0.acts grid.now.side shape planned.1) }
 {
-    let side = grid.side();
     let starts = operand_starts(alloc, grid, &[Operand { slot: 0, shape }])?;
     let mut plan = Plan::new(alloc, grid.ranks());
-    for j in 0..side {
-        for i in 0..side {
-            cut_block(&mut plan, grid, shape, i, j)?;
-        }
-        exchange(&mut plan, grid, j)?;
-    }
-    for j in 0..side {
-        for k in 0..side {
-            join_parts(&mut plan, grid, shape, k, j)?;
-        }
-    }
+    cut_blocks(&mut plan, grid, shape)?;
+    exchange_parts(&mut plan, alloc, grid)?;
+    join_all(&mut plan, grid, shape)?;
     shut_all(&mut plan)?;
     let plan = checked(alloc, grid, plan, &starts)?;
-    Ok((plan, 1 + side as u16))
+    Ok((plan, 1 + grid.side() as u16))
 }

@@ -1,11 +1,11 @@
-//! The slots with which these plans begin, their sums, and their check.
-ghost use Rattle.std.specs.Prelude.{◌≡◌, ◌<◌, ◌*◌, All, AllPairs, true, IfOk};
+//! The slots with which these plans begin, and their check.
+ghost use Rattle.std.specs.Prelude.{◌≡◌, ◌<◌, ◌*◌, All, AllPairs, IfOk};
 ghost use Rattle.cb_plan.specs.Plans.{IsElsewhere};
 ghost use Rattle.cb_plan_transfers.specs.WholeStarts.{all_whole};
 
 use cb_grid::Grid;
 use cb_matrix::Shape;
-use cb_plan::{Act, CheckedPlan, Op, Plan, PlanFault, SLOTS, Start};
+use cb_plan::{CheckedPlan, Plan, PlanFault, SLOTS, Start};
 use std::alloc::{AllocError, Global};
 
 /// The starts by which each rank has a block of this shape in slot 0.
@@ -29,21 +29,6 @@ pub(crate) fn whole_starts(
     Ok(starts)
 }
 
-/// A rank adds up the blocks in this many slots, from `first` on, into the first of them.
-pub(crate) fn add_up(plan: &mut Plan, rank: u16, first: u16, count: u16) -> Result<(), PlanFault>
-    ensures { plan.new.ranks ≡ plan.old.ranks }
-{
-    for slot in 1..count {
-        let op = Op::Add {
-            a: first,
-            b: first.saturating_add(slot),
-            into: first,
-        };
-        plan.push(Act::Work { rank, op })?;
-    }
-    Ok(())
-}
-
 /// A plan of a grid with these starts, if it has no fault.
 pub(crate) fn checked(
     alloc: Global,
@@ -56,6 +41,7 @@ pub(crate) fn checked(
     requires once { AllPairs IsElsewhere starts.now }
     ensures ranks { IfOk result (λ checked. checked.ranks ≡ grid.now.side * grid.now.side) }
     ensures starts { IfOk result (λ checked. checked.starts ≡ starts.now) }
+    ensures acts { IfOk result (λ checked. checked.acts ≡ plan.acts) }
 {
     let _ranks = grid.ranks();
     match CheckedPlan::check(alloc, plan, starts) {

@@ -1,0 +1,254 @@
+-- What the plan for writing leaves: the panels of the matrix.
+use Rattle.std.proofs.Common.{◌≡◌, ◌≢◌, ℕ, zero, suc, ◌+◌, ◌-◌, ◌*◌, ◌/◌, ◌%◌, ◌<◌, ◌≤◌, true, false, cond, ◌++◌, map, length, refl, sym, ap, ◌∙◌, arith}
+use Rattle.std.specs.Prelude.{Option, Some, ◌&&◌, nat_le, nat_lt, flat_map}
+use Rattle.std.specs.List.{range_with_len}
+use Rattle.std.proofs.lemmas.Bool.Decides.{nat_tests}
+use Rattle.std.proofs.lemmas.List.FromFn.{length-map-range_with_len, get_or-map-range_with_len}
+use Rattle.cb_semirings.specs.Arithmetic.{Arithmetic, IsValue, IsSemiring}
+use Rattle.cb_matrix.specs.Sparse.{Sparse, Extent, IsMatrix, at}
+use Rattle.cb_matrix.specs.Values.{matrix_of}
+use Rattle.cb_matrix.specs.Operations.{cut, placed, is_covered, sum_of}
+use Rattle.cb_matrix.proofs.Made.{at-matrix_of, same_matrix_of}
+use Rattle.cb_matrix.proofs.Totals.{add_zero, value_at-value}
+use Rattle.cb_grid.specs.Parts.{column_group, part, part_start, part_length, part_shape}
+use Rattle.cb_grid.specs.Blocks.{block_of}
+use Rattle.cb_grid.specs.Pieces.{piece, piece_start}
+use Rattle.cb_grid.proofs.Parts.{rank_below}
+use Rattle.cb_plan.specs.Meaning.{Algebra, State, meaning, one}
+use Rattle.cb_plan.specs.Algebras.{matrices}
+use Rattle.cb_plan.proofs.Effects.{split, meaning-append}
+use Rattle.cb_plan_parts.specs.Collectives.{member, shut_acts}
+use Rattle.cb_plan_parts.specs.PlanParts.{tagged}
+use Rattle.cb_plan_parts.proofs.Grid.{at_place, in_column, column_distinct}
+use Rattle.cb_plan_parts.proofs.PartStarts.{start_zero, start_rises, start_within, start_last}
+use Rattle.cb_plan_parts.proofs.ShutMeaning.{shut_nothing}
+use Rattle.cb_plan_operations.specs.VectorPlans.{each_works}
+use Rattle.cb_plan_operations.proofs.RankPrograms.{after_ops, after_ops-append, each_sets, each_works_here}
+use Rattle.cb_plan_operations.proofs.VectorSteps.{summed, yes, no}
+use Rattle.cb_plan_transfers.specs.Rounds.{sums}
+use Rattle.cb_plan_transfers.specs.Panels.{IsPanelsPlan, panel_of, block_cut, block_cuts, cuts_at, column_rounds, placed_part, joined_parts, joined_at, panels_acts}
+use Rattle.cb_plan_transfers.proofs.ReceivedBlocks.{op_skips, ops_set, sums_made}
+use Rattle.cb_plan_transfers.proofs.RoundsMeaning.{rounds_bring, rounds_elsewhere}
+
+-- ---- the slots after each step, over blocks of any kind
+module _ {M : Type 0} (ops : Algebra M) (q : ℕ) (shape : Extent) (state : State M) (block : ℕ → ℕ → M) (has : (i j : ℕ) → i < q → j < q → state (i * q + j) 0 ≡ Some (block i j)) where
+  -- piece k of the columns of block (i, j)
+  abbrev pub piece_at : ℕ → ℕ → ℕ → M
+  piece_at i j k = ops.cut (0, part_length q shape.rows i) (part q (part_length q shape.cols j) k) (block i j)
+
+  -- slot 1 + k has piece k of the columns of a rank's block
+  cuts_make : (slots : ℕ → Option M) (size : Extent) (x : M) (k : ℕ) → k < q → slots 0 ≡ Some x → after_ops ops (block_cuts q size) slots (1 + k) ≡ Some (ops.cut (0, size.rows) (part q size.cols k) x)
+  cuts_make slots size x k l is =
+      ops_set ops (block_cut q size) (1 + k) k (λ sl. one (ops.cut (0, size.rows) (part q size.cols k)) (sl 0)) 0 q slots (omega arith) (omega arith)
+      (λ sl. rw (yes (1 + k)) refl)
+      (λ h ne. let other : 1 + h ≢ 1 + k = omega (arith, ne) in other)
+      (λ h _ _ sl. ap (one (ops.cut (0, size.rows) (part q size.cols k))) (op_skips ops (block_cut q size h) 0 sl (let ne : 1 + h ≢ 0 = omega arith in ne)))
+      ∙ ap (one (ops.cut (0, size.rows) (part q size.cols k))) is
+
+  abbrev after_cuts : State M
+  after_cuts = meaning ops (each_works q (cuts_at q shape)) state
+
+  pieces_cut : (i j k : ℕ) → i < q → j < q → k < q → after_cuts (i * q + j) (1 + k) ≡ Some (piece_at i j k)
+  pieces_cut i j k l m o =
+      ap (λ slots. slots (1 + k)) (each_works_here ops q (cuts_at q shape) state (i * q + j) (rank_below q i j l m))
+      ∙ cuts_make (state (i * q + j)) (part_shape q shape ((i * q + j) / q) ((i * q + j) % q)) (block i j) k o (has i j l m)
+      ∙ at_place (λ x y. Some (ops.cut (0, part_length q shape.rows x) (part q (part_length q shape.cols y) k) (block i j))) q i j m
+
+  -- ---- the ranks of each column exchange pieces
+  column_count : (j : ℕ) → length (column_group q j) ≡ q
+  column_count j = length-map-range_with_len (λ i. i * q + j) 0 q
+
+  column_member : (j p : ℕ) → p < q → member (column_group q j) p ≡ p * q + j
+  column_member j p l = get_or-map-range_with_len (λ i. i * q + j) 0 q p p 0 l (omega arith)
+
+  column_elsewhere : (g : ℕ) (st : State M) → g < q → (i j x : ℕ) → i < q → j < q → g ≢ j → meaning ops (column_rounds q g) st (i * q + j) x ≡ st (i * q + j) x
+  column_elsewhere g st b i j x l m ne = rounds_elsewhere ops (column_group q g) (tagged 1) 1 (1 + q) st (i * q + j) x (in_column q i j g l m b ∙ no g j ne)
+
+  column_here : (j : ℕ) (st : State M) → j < q → (i k : ℕ) → i < q → k < q → meaning ops (column_rounds q j) st (k * q + j) (1 + q + i) ≡ st (i * q + j) (1 + k)
+  column_here j st m i k l o =
+      let c = column_count j in
+      ap (λ r. meaning ops (column_rounds q j) st r (1 + q + i)) (sym (column_member j k o))
+      ∙ rounds_bring ops (column_group q j) (tagged 1) 1 (1 + q) (column_distinct q j m) (omega arith) st i k (omega arith) (omega arith)
+      ∙ ap (λ r. st r (1 + k)) (column_member j i l)
+
+  abbrev after_rounds : State M
+  after_rounds = meaning ops (flat_map (column_rounds q) (range_with_len 0 q)) after_cuts
+
+  -- each rank has its piece of each block of its column
+  pieces_come : (i j k : ℕ) → i < q → j < q → k < q → after_rounds (k * q + j) (1 + q + i) ≡ Some (piece_at i j k)
+  pieces_come i j k l m o =
+      each_sets ops (column_rounds q) (k * q + j) (1 + q + i) j (λ st. st (i * q + j) (1 + k)) 0 q after_cuts (omega arith) (omega arith)
+      (λ st. column_here j st m i k l o)
+      (λ g _ b ne st. column_elsewhere g st (omega arith) k j (1 + q + i) o m ne)
+      (λ g _ b ne st. column_elsewhere g st (omega arith) i j (1 + k) l m ne)
+      ∙ pieces_cut i j k l m o
+
+  -- ---- each rank puts them together
+  places_make : (left : ℕ) (slots : ℕ → Option M) (parts : ℕ → M) → ((i : ℕ) → i < q → slots (1 + q + i) ≡ Some (parts i)) → (i : ℕ) → i < q →
+      after_ops ops (map (placed_part q shape left) (range_with_len 0 q)) slots (1 + q + i) ≡ Some (ops.place shape (part_start q shape.rows i, left) (parts i))
+  places_make left slots parts come i l =
+      let put = ops.place shape (part_start q shape.rows i, left) in
+      ops_set ops (placed_part q shape left) (1 + q + i) i (λ sl. one put (sl (1 + q + i))) 0 q slots (omega arith) (omega arith)
+      (λ sl. rw (yes (1 + q + i)) refl)
+      (λ h ne. let other : 1 + q + h ≢ 1 + q + i = omega (arith, ne) in other)
+      (λ h _ b sl. ap (one put) (op_skips ops (placed_part q shape left h) (1 + q + i) sl (let ne : 1 + q + h ≢ 1 + q + i = omega arith in ne)))
+      ∙ ap (one put) (come i l)
+
+  -- piece k of the columns of block (i, j), in its place in the whole shape
+  abbrev pub placed_at : ℕ → ℕ → ℕ → M
+  placed_at j k i = ops.place shape (part_start q shape.rows i, piece_start q shape.cols j k) (piece_at i j k)
+
+  joined_make : (k j : ℕ) → k < q → j < q → after_ops ops (joined_parts q shape (piece_start q shape.cols j k)) (after_rounds (k * q + j)) (1 + q) ≡ Some (summed ops (placed_at j k) (q - 1))
+  joined_make k j l m =
+      let left = piece_start q shape.cols j k in
+      let puts = map (placed_part q shape left) (range_with_len 0 q) in
+      ap (λ s. s (1 + q)) (after_ops-append ops puts (sums (1 + q) q) (after_rounds (k * q + j)))
+      ∙ sums_made ops (placed_at j k) (1 + q) q (after_ops ops puts (after_rounds (k * q + j))) (omega arith)
+      (λ i o. places_make left (after_rounds (k * q + j)) (λ i. piece_at i j k) (λ i o. pieces_come i j k o m l) i o)
+
+  -- after all acts each rank has the sum of what was placed
+  pub parts_joined : (k j : ℕ) → k < q → j < q → meaning ops (panels_acts q shape) state (k * q + j) (1 + q) ≡ Some (summed ops (placed_at j k) (q - 1))
+  parts_joined k j l m =
+      let sent = flat_map (column_rounds q) (range_with_len 0 q) in
+      let joins = each_works q (joined_at q shape) in
+      let cuts = each_works q (cuts_at q shape) in
+      ap (λ st. st (k * q + j) (1 + q)) (meaning-append ops (cuts ++ (sent ++ joins)) (shut_acts (q * q)) state
+      ∙ shut_nothing ops (q * q) (meaning ops (cuts ++ (sent ++ joins)) state)
+      ∙ meaning-append ops cuts (sent ++ joins) state
+      ∙ meaning-append ops sent joins after_cuts)
+      ∙ ap (λ slots. slots (1 + q)) (each_works_here ops q (joined_at q shape) after_rounds (k * q + j) (rank_below q k j l m))
+      ∙ at_place (λ x y. after_ops ops (joined_parts q shape (piece_start q shape.cols y x)) (after_rounds (k * q + j)) (1 + q)) q k j m
+      ∙ joined_make k j l m
+
+-- ---- over a semiring: the panel of rank (k, j)
+module _ (s : Arithmetic) (laws : IsSemiring s) (q : ℕ) (pos : 0 < q) (m : Sparse) (is_m : IsMatrix s m) (k j : ℕ) where
+  abbrev width : ℕ
+  width = part_length q m.shape.cols j
+
+  abbrev left : ℕ
+  left = piece_start q m.shape.cols j k
+
+  abbrev right : ℕ
+  right = piece_start q m.shape.cols j (k + 1)
+
+  is_value : (x y : ℕ) → IsValue s (at s m x y)
+  is_value x y = value_at-value s laws m.entries x y is_m.values
+
+  -- the panel, of which only the rows above row part i are there
+  abbrev front : ℕ → ℕ → ℕ → ℕ
+  front i x y = cond (nat_lt x (part_start q m.shape.rows i) && (nat_le left y && nat_lt y right)) (at s m x y) s.zero
+
+  -- piece k of the columns of block (i, j)
+  abbrev own : ℕ → Sparse
+  own i = cut s (0, part_length q m.shape.rows i) (part q width k) (block_of s q m i j)
+
+  abbrev placed_own : ℕ → Sparse
+  placed_own i = placed s m.shape (part_start q m.shape.rows i, left) (own i)
+
+  own_value : (i x y : ℕ) → x < part_length q m.shape.rows i → y < right - left → at s (own i) x y ≡ at s m (part_start q m.shape.rows i + x) (left + y)
+  own_value i x y l o =
+      let up = start_rises q width k in
+      let inside = start_within q width (k + 1) in
+      let e : 0 + x ≡ x = omega arith in
+      let f : part_start q m.shape.cols j + (part_start q width k + y) ≡ left + y = omega arith in
+      at-matrix_of s (record { rows = part_length q m.shape.rows i - 0; cols = part_start q width (k + 1) - part_start q width k }) (λ x y. at s (block_of s q m i j) (0 + x) (part_start q width k + y)) x y (omega arith) (omega arith)
+      ∙ at-matrix_of s (part_shape q m.shape i j) (λ x y. at s m (part_start q m.shape.rows i + x) (part_start q m.shape.cols j + y)) (0 + x) (part_start q width k + y) (omega arith) (omega arith)
+      ∙ ap (λ r. at s m (part_start q m.shape.rows i + r) (part_start q m.shape.cols j + (part_start q width k + y))) e
+      ∙ ap (at s m (part_start q m.shape.rows i + x)) f
+
+  placed_value : (i x y : ℕ) → x < m.shape.rows → y < m.shape.cols → at s (placed_own i) x y
+      ≡ cond ((nat_le (part_start q m.shape.rows i) x && nat_lt x (part_start q m.shape.rows (i + 1))) && (nat_le left y && nat_lt y right)) (at s m x y) s.zero
+  placed_value i x y l o =
+      let first = part_start q m.shape.rows i in
+      let last = part_start q m.shape.rows (i + 1) in
+      let down = start_rises q m.shape.rows i in
+      let up = start_rises q width k in
+      at-matrix_of s m.shape (λ x y. cond (is_covered (first, left) (own i).shape x y) (at s (own i) (x - first) (y - left)) s.zero) x y l o
+      ∙ split ((nat_le first x && nat_lt x last) && (nat_le left y && nat_lt y right))
+      (λ t.
+      let a : first ≤ x = grind (arith, nat_tests) in
+      let b : x < last = grind (arith, nat_tests) in
+      let c : left ≤ y = grind (arith, nat_tests) in
+      let d : y < right = grind (arith, nat_tests) in
+      let u : is_covered (first, left) (own i).shape x y ≡ true = grind (arith, nat_tests) in
+      let e : first + (x - first) ≡ x = omega arith in
+      let f : left + (y - left) ≡ y = omega arith in
+      rw (t, u) (own_value i (x - first) (y - left) (omega arith) (omega arith) ∙ ap (λ r. at s m r (left + (y - left))) e ∙ ap (at s m x) f))
+      (λ t.
+      let u : is_covered (first, left) (own i).shape x y ≡ false = grind (arith, nat_tests) in
+      rw (t, u) refl)
+
+  front_first : placed_own 0 ≡ matrix_of s m.shape (front 1)
+  front_first =
+      let first = part_start q m.shape.rows 0 in
+      same_matrix_of s m.shape (λ x y. cond (is_covered (first, left) (own 0).shape x y) (at s (own 0) (x - first) (y - left)) s.zero) (front 1) (λ x y l o.
+      let e : first ≡ 0 = start_zero q m.shape.rows in
+      let u : (nat_le first x && nat_lt x (part_start q m.shape.rows 1)) ≡ nat_lt x (part_start q m.shape.rows 1) = grind (arith, nat_tests) in
+      sym (at-matrix_of s m.shape (λ x y. cond (is_covered (first, left) (own 0).shape x y) (at s (own 0) (x - first) (y - left)) s.zero) x y l o)
+      ∙ placed_value 0 x y l o
+      ∙ ap (λ b. cond (b && (nat_le left y && nat_lt y right)) (at s m x y) s.zero) u)
+
+  front_next : (i : ℕ) → sum_of s (matrix_of s m.shape (front i)) (placed_own i) ≡ matrix_of s m.shape (front (i + 1))
+  front_next i =
+      same_matrix_of s m.shape (λ x y. s.add (at s (matrix_of s m.shape (front i)) x y) (at s (placed_own i) x y)) (front (i + 1)) (λ x y l o.
+      let first = part_start q m.shape.rows i in
+      let last = part_start q m.shape.rows (i + 1) in
+      let down = start_rises q m.shape.rows i in
+      ap (λ v. s.add v (at s (placed_own i) x y)) (at-matrix_of s m.shape (front i) x y l o)
+      ∙ ap (s.add (front i x y)) (placed_value i x y l o)
+      ∙ split (nat_le left y && nat_lt y right)
+      (λ z. split (nat_lt x first)
+      (λ t.
+      let u : (nat_le first x && nat_lt x last) ≡ false = grind (arith, nat_tests) in
+      let v : nat_lt x last ≡ true = grind (arith, nat_tests) in
+      rw (z, t, u, v) (add_zero s laws (at s m x y) (is_value x y)))
+      (λ t. split (nat_lt x last)
+      (λ v.
+      let u : (nat_le first x && nat_lt x last) ≡ true = grind (arith, nat_tests) in
+      rw (z, t, u, v) (laws.zero_add (at s m x y) (is_value x y)))
+      (λ v.
+      let u : (nat_le first x && nat_lt x last) ≡ false = grind (arith, nat_tests) in
+      rw (z, t, u, v) (laws.zero_add s.zero laws.zero_value))))
+      (λ z.
+      let a : (nat_lt x first && (nat_le left y && nat_lt y right)) ≡ false = grind (arith, nat_tests) in
+      let b : ((nat_le first x && nat_lt x last) && (nat_le left y && nat_lt y right)) ≡ false = grind (arith, nat_tests) in
+      let c : (nat_lt x last && (nat_le left y && nat_lt y right)) ≡ false = grind (arith, nat_tests) in
+      rw (a, b, c) (laws.zero_add s.zero laws.zero_value)))
+
+  fronts : (i : ℕ) → summed (matrices s) placed_own i ≡ matrix_of s m.shape (front (suc i))
+  fronts zero = front_first
+  fronts (suc i) =
+      let e : suc i + 1 ≡ suc (suc i) = omega arith in
+      ap (λ acc. sum_of s acc (placed_own (suc i))) (fronts i) ∙ front_next (suc i) ∙ ap (λ n. matrix_of s m.shape (front n)) e
+
+  -- the pieces of all blocks of column j make the panel
+  pub pieces_make_panel : summed (matrices s) placed_own (q - 1) ≡ panel_of s q m k j
+  pieces_make_panel =
+      let e : suc (q - 1) ≡ q = omega arith in
+      let whole = cut s (0, m.shape.rows) (piece q m.shape.cols j k) m in
+      let up = start_rises q width k in
+      let inside = start_within q width (k + 1) in
+      let within = start_within q m.shape.cols (j + 1) in
+      fronts (q - 1)
+      ∙ ap (λ n. matrix_of s m.shape (front n)) e
+      ∙ same_matrix_of s m.shape (front q) (λ x y. cond (is_covered (0, left) whole.shape x y) (at s whole (x - 0) (y - left)) s.zero) (λ x y l o.
+      let f : part_start q m.shape.rows q ≡ m.shape.rows = start_last q m.shape.rows pos in
+      let t : nat_lt x m.shape.rows ≡ true = grind (arith, nat_tests) in
+      split (nat_le left y && nat_lt y right)
+      (λ z.
+      let c : left ≤ y = grind (arith, nat_tests) in
+      let d : y < right = grind (arith, nat_tests) in
+      let u : is_covered (0, left) whole.shape x y ≡ true = grind (arith, nat_tests) in
+      let a : 0 + (x - 0) ≡ x = omega arith in
+      let b : left + (y - left) ≡ y = omega arith in
+      rw (f, t, z, u) (sym (at-matrix_of s whole.shape (λ x y. at s m (0 + x) (left + y)) (x - 0) (y - left) (omega arith) (omega arith) ∙ ap (λ r. at s m r (left + (y - left))) a ∙ ap (at s m x) b)))
+      (λ z.
+      let u : is_covered (0, left) whole.shape x y ≡ false = grind (arith, nat_tests) in
+      rw (f, t, z, u) refl))
+
+-- the acts leave the panels of the matrix
+pub is_panels_plan : (q : ℕ) → 0 < q → (shape : Extent) → IsPanelsPlan (panels_acts q shape) q shape (1 + q)
+is_panels_plan q pos shape s laws m is_m same state has k j l o =
+    ap (λ (e : Extent). meaning (matrices s) (panels_acts q e) state (k * q + j) (1 + q)) (sym same)
+    ∙ parts_joined (matrices s) q m.shape state (block_of s q m) has k j l o
+    ∙ ap Some (pieces_make_panel s laws q pos m is_m k j)

@@ -1,0 +1,33 @@
+-- An exchange in rounds, and sums of what was received.
+use Rattle.std.specs.Prelude.{ℕ, ◌+◌, ◌-◌, ◌%◌, List, length, map, flat_map}
+use Rattle.std.specs.List.{range_with_len}
+use Rattle.cb_letters.specs.declared.Tag.{Tag}
+use Rattle.cb_plan.specs.declared.acts.Op.{Op}
+use Rattle.cb_plan.specs.declared.acts.Op.TheVariants as op_is
+use Rattle.cb_plan.specs.declared.acts.Act.{Act}
+use Rattle.cb_plan_parts.specs.Collectives.{member, sent}
+
+-- the place that is so far ahead of place s among n, cyclically
+abbrev pub ahead : ℕ → ℕ → ℕ → ℕ
+ahead n distance s = (s + distance) % n
+
+-- slot slot + t of member s goes to slot into + s of the member t that is so far ahead
+abbrev pub sent_ahead : List ℕ → Tag → ℕ → ℕ → ℕ → ℕ → Act
+sent_ahead members tag slot into distance s =
+    let t = ahead (length members) distance s in sent (member members s) (member members t) tag (slot + t) (into + s)
+
+-- one round: each member sends once, and receives once
+abbrev pub round : List ℕ → Tag → ℕ → ℕ → ℕ → List Act
+round members tag slot into distance = map (sent_ahead members tag slot into distance) (range_with_len 0 (length members))
+
+-- all rounds: slot slot + t of member s goes to slot into + s of member t, for each s and each t
+abbrev pub rounds : List ℕ → Tag → ℕ → ℕ → List Act
+rounds members tag slot into = flat_map (round members tag slot into) (range_with_len 0 (length members))
+
+-- the block in a later slot is added to the one in the first
+abbrev pub add_to : ℕ → ℕ → Op
+add_to first k = op_is.Add first (first + 1 + k) first
+
+-- the blocks in so many slots are added up in the first of them
+abbrev pub sums : ℕ → ℕ → List Op
+sums first count = map (add_to first) (range_with_len 0 (count - 1))
