@@ -175,8 +175,7 @@ static void shapes(const char* name, Places places) {
         free(rows), free(cols);
         rows = drawn(n, n / 2, false, 30), cols = drawn(n, n / 2, false, 31);
         MADE("extract half, shuffled", name, "", cbgrid_matrix_extract(a, rows, n / 2, cols, n / 2, NULL, &out));
-        for (u64 v = 0; v < n; v++) rows[v] = v;
-        MADE("extract 100 columns", name, "all rows named", cbgrid_matrix_extract(a, rows, n, cols, 100, NULL, &out));
+        MADE("extract 100 columns", name, "CBGRID_ALL rows", cbgrid_matrix_extract(a, NULL, CBGRID_ALL, cols, 100, NULL, &out));
         free(rows), free(cols);
         MADE("part (half of each side)", name, "", cbgrid_matrix_part(a, n / 4, n / 4 * 3, n / 4, n / 4 * 3, &out));
         M* block;

@@ -7,6 +7,7 @@
 #include "kernel.h"
 #include "pool.h"
 
+#include <stdbool.h>
 #include <stdlib.h>
 
 /* What an empty list points to: a slice is never null. */
@@ -240,10 +241,13 @@ int cbgrid_matrix_part(const struct cbgrid_matrix *a, uint32_t row, uint32_t row
 int cbgrid_matrix_extract(const struct cbgrid_matrix *a, const uint32_t *rows, size_t row_count,
                           const uint32_t *columns, size_t column_count, uint64_t *at, struct cbgrid_matrix **out) {
     struct owned made = {NULL};
+    bool all_rows = row_count == CBGRID_ALL, all_columns = column_count == CBGRID_ALL;
+    if (all_rows) row_count = 0;
+    if (all_columns) column_count = 0;
     if (!a || !out || (row_count && !rows) || (column_count && !columns)) return CBGRID_NULL_POINTER;
     if (!row_count) rows = NOTHING32;
     if (!column_count) columns = NOTHING32;
-    uint32_t code = cbgrid_kernel_kept_extract((kept){a}, rows, row_count, columns, column_count, &made);
+    uint32_t code = cbgrid_kernel_kept_extract((kept){a}, all_rows, rows, row_count, all_columns, columns, column_count, &made);
     if (at && is_of_one(code)) {
         *at = cbgrid_kernel_first_outside(rows, row_count, cbgrid_matrix_nrows(a));
         if (*at == row_count) *at += cbgrid_kernel_first_outside(columns, column_count, cbgrid_matrix_ncols(a));
@@ -270,16 +274,39 @@ int cbgrid_matrix_power(const struct cbgrid_matrix *a, uint32_t factors, struct 
     return hand(cbgrid_kernel_kept_power((kept){a}, factors, &made), made, out);
 }
 
-int cbgrid_matrix_row_degrees(const struct cbgrid_matrix *a, struct cbgrid_matrix **out) {
+/* The numbers of tasks on graphs, as crates/cb_kept has them. */
+enum task {
+    LEVELS, DISTANCES, LEVELS_FROM, DISTANCES_FROM, LEVELS_GIVEN, DISTANCES_GIVEN, PARENTS, COMPONENTS, TRIANGLES,
+    TRIANGLE_COUNTS, ROW_DEGREES, COLUMN_DEGREES
+};
+
+/* Makes the columns of a task on a graph, which reads the source and the initial values only if it takes them. */
+static int compute(enum task task, const struct cbgrid_matrix *a, uint32_t source, const struct cbgrid_matrix *given,
+                   struct cbgrid_matrix **out) {
     struct owned made = {NULL};
-    if (!a || !out) return CBGRID_NULL_POINTER;
-    return hand(cbgrid_kernel_kept_row_degrees((kept){a}, &made), made, out);
+    uint64_t number = 0;
+    if (!a || !given || !out) return CBGRID_NULL_POINTER;
+    return hand(cbgrid_kernel_kept_graph(task, source, NOTHING32, 0, (kept){given}, (kept){a}, &made, &number), made, out);
+}
+
+/* The same from several sources. */
+static int compute_from(enum task task, const struct cbgrid_matrix *a, const uint32_t *sources, size_t count, uint64_t *at,
+                        struct cbgrid_matrix **out) {
+    struct owned made = {NULL};
+    uint64_t number = 0;
+    if (!a || !out || (count && !sources)) return CBGRID_NULL_POINTER;
+    if (!count) sources = NOTHING32;
+    uint32_t code = cbgrid_kernel_kept_graph(task, 0, sources, count, (kept){a}, (kept){a}, &made, &number);
+    if (at && is_of_one(code)) *at = cbgrid_kernel_first_outside(sources, count, cbgrid_matrix_nrows(a));
+    return hand(code, made, out);
+}
+
+int cbgrid_matrix_row_degrees(const struct cbgrid_matrix *a, struct cbgrid_matrix **out) {
+    return compute(ROW_DEGREES, a, 0, a, out);
 }
 
 int cbgrid_matrix_column_degrees(const struct cbgrid_matrix *a, struct cbgrid_matrix **out) {
-    struct owned made = {NULL};
-    if (!a || !out) return CBGRID_NULL_POINTER;
-    return hand(cbgrid_kernel_kept_column_degrees((kept){a}, &made), made, out);
+    return compute(COLUMN_DEGREES, a, 0, a, out);
 }
 
 int cbgrid_matrix_reduce_all(const struct cbgrid_matrix *a, uint64_t *out) {
@@ -289,66 +316,45 @@ int cbgrid_matrix_reduce_all(const struct cbgrid_matrix *a, uint64_t *out) {
 }
 
 int cbgrid_matrix_levels(const struct cbgrid_matrix *a, uint32_t source, struct cbgrid_matrix **out) {
-    struct owned made = {NULL};
-    if (!a || !out) return CBGRID_NULL_POINTER;
-    return hand(cbgrid_kernel_kept_levels((kept){a}, source, &made), made, out);
+    return compute(LEVELS, a, source, a, out);
 }
 
 int cbgrid_matrix_distances(const struct cbgrid_matrix *a, uint32_t source, struct cbgrid_matrix **out) {
-    struct owned made = {NULL};
-    if (!a || !out) return CBGRID_NULL_POINTER;
-    return hand(cbgrid_kernel_kept_distances((kept){a}, source, &made), made, out);
+    return compute(DISTANCES, a, source, a, out);
 }
 
 int cbgrid_matrix_levels_from(const struct cbgrid_matrix *a, const uint32_t *sources, size_t count, uint64_t *at,
                               struct cbgrid_matrix **out) {
-    struct owned made = {NULL};
-    if (!a || !out || (count && !sources)) return CBGRID_NULL_POINTER;
-    if (!count) sources = NOTHING32;
-    uint32_t code = cbgrid_kernel_kept_levels_from((kept){a}, sources, count, &made);
-    if (at && is_of_one(code)) *at = cbgrid_kernel_first_outside(sources, count, cbgrid_matrix_nrows(a));
-    return hand(code, made, out);
+    return compute_from(LEVELS_FROM, a, sources, count, at, out);
 }
 
 int cbgrid_matrix_distances_from(const struct cbgrid_matrix *a, const uint32_t *sources, size_t count, uint64_t *at,
                                  struct cbgrid_matrix **out) {
-    struct owned made = {NULL};
-    if (!a || !out || (count && !sources)) return CBGRID_NULL_POINTER;
-    if (!count) sources = NOTHING32;
-    uint32_t code = cbgrid_kernel_kept_distances_from((kept){a}, sources, count, &made);
-    if (at && is_of_one(code)) *at = cbgrid_kernel_first_outside(sources, count, cbgrid_matrix_nrows(a));
-    return hand(code, made, out);
+    return compute_from(DISTANCES_FROM, a, sources, count, at, out);
 }
 
 int cbgrid_matrix_levels_given(const struct cbgrid_matrix *a, const struct cbgrid_matrix *given,
                                struct cbgrid_matrix **out) {
-    struct owned made = {NULL};
-    if (!a || !given || !out) return CBGRID_NULL_POINTER;
-    return hand(cbgrid_kernel_kept_levels_given((kept){a}, (kept){given}, &made), made, out);
+    return compute(LEVELS_GIVEN, a, 0, given, out);
 }
 
 int cbgrid_matrix_distances_given(const struct cbgrid_matrix *a, const struct cbgrid_matrix *given,
                                   struct cbgrid_matrix **out) {
-    struct owned made = {NULL};
-    if (!a || !given || !out) return CBGRID_NULL_POINTER;
-    return hand(cbgrid_kernel_kept_distances_given((kept){a}, (kept){given}, &made), made, out);
+    return compute(DISTANCES_GIVEN, a, 0, given, out);
 }
 
 int cbgrid_matrix_parents(const struct cbgrid_matrix *a, uint32_t source, struct cbgrid_matrix **out) {
-    struct owned made = {NULL};
-    if (!a || !out) return CBGRID_NULL_POINTER;
-    return hand(cbgrid_kernel_kept_parents((kept){a}, source, &made), made, out);
+    return compute(PARENTS, a, source, a, out);
 }
 
 int cbgrid_matrix_components(const struct cbgrid_matrix *a, struct cbgrid_matrix **out) {
-    struct owned made = {NULL};
-    if (!a || !out) return CBGRID_NULL_POINTER;
-    return hand(cbgrid_kernel_kept_components((kept){a}, &made), made, out);
+    return compute(COMPONENTS, a, 0, a, out);
 }
 
 int cbgrid_matrix_triangles(const struct cbgrid_matrix *a, uint64_t *out) {
+    struct owned made = {NULL};
     if (!a || !out) return CBGRID_NULL_POINTER;
-    return (int)cbgrid_kernel_kept_triangles((kept){a}, out);
+    return (int)cbgrid_kernel_kept_graph(TRIANGLES, 0, NOTHING32, 0, (kept){a}, (kept){a}, &made, out);
 }
 
 int cbgrid_matrix_read(uint32_t semiring, const void *text, size_t len, uint64_t *line, struct cbgrid_matrix **out) {

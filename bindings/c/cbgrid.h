@@ -68,6 +68,8 @@ extern "C" {
 
 /* The most rows or columns that a matrix can have. */
 #define CBGRID_LIMIT 2147483647u
+/* In place of the length of a list of rows or of columns: all of them, in order. */
+#define CBGRID_ALL SIZE_MAX
 
 /* The most threads that one call uses. */
 #define CBGRID_MOST_THREADS 256u
@@ -379,12 +381,13 @@ int cbgrid_matrix_diagonal_matrix(const struct cbgrid_matrix *a, struct cbgrid_m
 int cbgrid_matrix_part(const struct cbgrid_matrix *a, uint32_t row, uint32_t row_end, uint32_t column,
                        uint32_t column_end, struct cbgrid_matrix **out);
 
-/* Makes the matrix whose row i and column j are row rows[i] and column columns[j] of a, in any order, with repetitions.
- * CBGRID_TOO_LARGE if a list has more than CBGRID_LIMIT elements, then CBGRID_PLACE if a doesn't have such a row or column:
- * then the call writes to `at` where the first one is, n for rows[n], or row_count + n for columns[n]. A list of length 0 may
- * be a null pointer. Costs a binary search for each column, the elements of `rows`, and the entries of these columns. If the
- * rows don't ascend, or if a has more than four rows for each of them and for each of these entries, it also costs a binary
- * search for each row, and two transposes. */
+/* Makes the matrix whose row i and column j are row rows[i] and column columns[j] of a, in any order, with repetitions. With
+ * CBGRID_ALL for row_count or column_count it has all rows or all columns, whatever that list is. CBGRID_TOO_LARGE if a list has
+ * more than CBGRID_LIMIT elements, then CBGRID_PLACE if a doesn't have such a row or column: then the call writes to `at` where
+ * the first one is, n for rows[n], or row_count + n for columns[n] (n if it has all rows). A list of length 0, or of all, may be a
+ * null pointer. Costs a binary search for each column, the elements of `rows`, and the entries of these columns. If the rows
+ * don't ascend, or if a has more than four rows for each of them and for each of these entries, it also costs a binary search
+ * for each row, and two transposes. */
 int cbgrid_matrix_extract(const struct cbgrid_matrix *a, const uint32_t *rows, size_t row_count,
                           const uint32_t *columns, size_t column_count, uint64_t *at, struct cbgrid_matrix **out);
 

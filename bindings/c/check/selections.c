@@ -16,6 +16,7 @@ struct selection {
     uint64_t value;
     uint32_t row, row_end, column, column_end, rows[SIDE], columns[SIDE];
     size_t row_count, column_count;
+    int all_rows, all_columns; /* so that the lists are those of all */
     struct dense a, b, want;
     uint64_t total;
     int code; /* what the call returns, with memory */
@@ -114,6 +115,12 @@ static size_t draw_numbers(uint32_t below, uint32_t *numbers) {
     return count;
 }
 
+/* All numbers below a side. */
+static size_t all_numbers(uint32_t below, uint32_t *numbers) {
+    for (uint32_t n = 0; n < below; n++) numbers[n] = n;
+    return below;
+}
+
 static void draw_range(uint32_t below, uint32_t *from, uint32_t *to) {
     *to = draw_to(0, below);
     *from = *to - draw_to(0, *to);
@@ -136,6 +143,9 @@ static void make_selection(struct selection *job, enum choice choice, uint32_t s
     draw_range(n, &job->column, &job->column_end);
     if (choice == ASSIGN) job->row = draw(m - job->b.nrows + 1), job->column = draw(n - job->b.ncols + 1);
     job->row_count = draw_numbers(m, job->rows), job->column_count = draw_numbers(n, job->columns);
+    job->all_rows = choice == EXTRACT && !draw(3), job->all_columns = choice == EXTRACT && !draw(3);
+    if (job->all_rows) job->row_count = all_numbers(m, job->rows);
+    if (job->all_columns) job->column_count = all_numbers(n, job->columns);
     job->code = CBGRID_OK;
     if (choice == DIAGONAL_MATRIX && n != 1) job->code = CBGRID_NOT_COLUMN;
     uint32_t last = job->number == CBGRID_ROW ? m : job->number == CBGRID_COLUMN ? n : 0;
@@ -147,16 +157,24 @@ static void make_selection(struct selection *job, enum choice choice, uint32_t s
     }
 }
 
+static int extract(const struct selection *job, const struct cbgrid_matrix *a, struct cbgrid_matrix **out) {
+    const uint32_t *rows = job->row_count && !job->all_rows ? job->rows : NULL;
+    const uint32_t *columns = job->column_count && !job->all_columns ? job->columns : NULL;
+    size_t row_count = job->all_rows ? CBGRID_ALL : job->row_count;
+    size_t column_count = job->all_columns ? CBGRID_ALL : job->column_count;
+    return cbgrid_matrix_extract(a, rows, row_count, columns, column_count, NULL, out);
+}
+
 static int call_selection(const struct selection *job, const struct cbgrid_matrix *a, const struct cbgrid_matrix *b,
                           struct cbgrid_matrix **out, uint64_t *total) {
-    const uint32_t *rows = job->row_count ? job->rows : NULL, *columns = job->column_count ? job->columns : NULL;
+    const uint32_t *columns = job->column_count ? job->columns : NULL;
     switch (job->choice) {
         case SELECT: return cbgrid_matrix_select(a, job->number, job->diagonal, out);
         case APPLY: return cbgrid_matrix_apply(a, job->number, job->value, out);
         case DIAGONAL: return cbgrid_matrix_diagonal(a, out);
         case DIAGONAL_MATRIX: return cbgrid_matrix_diagonal_matrix(a, out);
         case PART: return cbgrid_matrix_part(a, job->row, job->row_end, job->column, job->column_end, out);
-        case EXTRACT: return cbgrid_matrix_extract(a, rows, job->row_count, columns, job->column_count, NULL, out);
+        case EXTRACT: return extract(job, a, out);
         case KRON: return cbgrid_matrix_kron(a, b, out);
         case ASSIGN: return cbgrid_matrix_assign(a, job->row, job->column, b, out);
         case EXCLUDE: return cbgrid_matrix_exclude(a, b, out);
@@ -246,6 +264,8 @@ static void test_selection_codes(void) {
     EXPECT(cbgrid_matrix_part(a, 0, 2, 3, 0, &out) == CBGRID_PLACE);
     EXPECT(cbgrid_matrix_extract(a, bad_rows, 2, good_rows, 2, NULL, &out) == CBGRID_PLACE);
     EXPECT(cbgrid_matrix_extract(a, good_rows, 2, bad_columns, 1, NULL, &out) == CBGRID_PLACE);
+    EXPECT(cbgrid_matrix_extract(a, NULL, CBGRID_ALL, bad_columns, 1, NULL, &out) == CBGRID_PLACE);
+    EXPECT(cbgrid_matrix_extract(a, bad_rows, 2, NULL, CBGRID_ALL, NULL, &out) == CBGRID_PLACE);
     EXPECT(cbgrid_matrix_kron(a, b, &out) == CBGRID_MIXED);
     EXPECT(cbgrid_matrix_kron(huge, b, &out) == CBGRID_MIXED);
     EXPECT(cbgrid_matrix_kron(huge, a, &out) == CBGRID_TOO_LARGE);

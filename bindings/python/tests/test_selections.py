@@ -109,6 +109,8 @@ class Selections(unittest.TestCase):
             self.same(made[rows, cuts[1]], whole[rows][:, cuts[1]])
             self.same(made[cuts[0], columns], whole[cuts[0]][:, columns])
             self.same(made[:, :], whole)
+            self.same(made[:, columns], whole[:, columns])
+            self.same(made[rows, :], whole[rows])
             for i in range(-whole.shape[0], whole.shape[0]):
                 self.same(made[i, cuts[1]], whole[i, cuts[1]].reshape(1, -1))
             for j in range(whole.shape[1]):

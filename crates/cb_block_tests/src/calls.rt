@@ -123,7 +123,7 @@ fn extracted(alloc: Global, whole: &Block<PlusTimes>, rows: &[u32], cols: &[u32]
     if !are_below(rows, shape.rows()) || !are_below(cols, shape.cols()) {
         return Err(SampleFault::Shape);
     }
-    Ok(extract(alloc, whole, rows, cols)?)
+    Ok(extract(alloc, whole, Some(rows), Some(cols))?)
 }
 
 /// The rows with these numbers.

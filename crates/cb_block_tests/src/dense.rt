@@ -2,7 +2,7 @@
 use crate::samples::entries;
 use cb_dcsc::Block;
 use cb_dense::add_product;
-use cb_matrix::{Entry, LIMIT, Matrix};
+use cb_matrix::{Entry, LIMIT};
 use cb_samples::{SampleFault, block};
 use cb_semirings::PlusTimes;
 use std::alloc::Global;
@@ -27,28 +27,21 @@ struct Case {
 fn adds(
     sums: &mut [u64],
     matrix: &Block<PlusTimes>,
-    vector: &Matrix<PlusTimes>,
+    vector: &Block<PlusTimes>,
     wanted: &[u64],
 ) -> bool {
-    let shape = matrix.shape();
-    if shape.cols() != vector.rows() || vector.cols() != 1 || sums.len() != shape.rows() as usize {
+    let (shape, column) = (matrix.shape(), vector.shape());
+    if shape.cols() != column.rows() || column.cols() != 1 || sums.len() != shape.rows() as usize {
         return false;
     }
     add_product(sums, matrix, vector);
     *sums == *wanted
 }
 
-/// The vector with these entries.
-fn vector(alloc: Global, rows: u32, entries: &[Entry]) -> Result<Matrix<PlusTimes>, SampleFault> {
-    let column = block::<PlusTimes>(alloc, rows, 1, entries)?;
-    let shape = column.shape();
-    Ok(Matrix::from_ordered(shape, column.entries()?))
-}
-
 /// Whether a case is right.
 fn is_added(alloc: Global, case: &Case) -> Result<bool, SampleFault> {
     let matrix = block::<PlusTimes>(alloc, case.rows, case.columns, case.block)?;
-    let vector = vector(alloc, case.columns, case.vector)?;
+    let vector = block::<PlusTimes>(alloc, case.columns, 1, case.vector)?;
     let mut sums = case.sums.to_vec(alloc)?;
     Ok(adds(&mut sums, &matrix, &vector, case.wanted))
 }
@@ -63,8 +56,8 @@ fn is_added(alloc: Global, case: &Case) -> Result<bool, SampleFault> {
 /// ```
 const GAPPED: &'static [Entry] = entries![(0, 0, 1), (2, 0, 2), (1, 2, 3), (2, 2, 4), (0, 3, 5)];
 
-/// With and without empty columns before, between and after those that have entries; a sum that is zero; a vector without
-/// entries; and 2,147,483,647 columns, two of them with entries.
+/// With and without empty columns before, between and after those that have entries; a sum that is zero; vectors without
+/// entries, with one in each row, and with one in each of the first rows; and 2,147,483,647 columns, two of them with entries.
 const CASES: &[Case] = &[
     Case {
         sums: &[0, 0, 0, 0],
@@ -105,6 +98,22 @@ const CASES: &[Case] = &[
         block: GAPPED,
         vector: &[],
         wanted: &[1, 2, 3, 4],
+    },
+    Case {
+        sums: &[1, 2, 3, 4],
+        rows: 4,
+        columns: 5,
+        block: GAPPED,
+        vector: entries![(0, 0, 10), (1, 0, 7), (2, 0, 100), (3, 0, 3), (4, 0, 9)],
+        wanted: &[26, 302, 423, 4],
+    },
+    Case {
+        sums: &[1, 2, 3, 4],
+        rows: 4,
+        columns: 5,
+        block: GAPPED,
+        vector: entries![(0, 0, 10), (1, 0, 7), (3, 0, 2)],
+        wanted: &[21, 2, 23, 4],
     },
     Case {
         sums: &[1, 1],

@@ -1,15 +1,17 @@
 //! Products in panels, beside the product by one thread.
 ghost use Rattle.std.specs.Prelude.{◌≡◌, IfOk};
 ghost use Rattle.cb_operations.specs.OperationAnswers.{operand_count_of};
+ghost use Rattle.cb_operations.specs.SelectionAnswers as selections;
 
 use crate::calls::push;
 use crate::samples::{are_same, is_right_or_refused};
 use cb_dcsc::Block;
 use cb_layout::PanelledMatrix;
 use cb_matrix::{Entry, LIMIT, Test};
-use cb_operations::Operation;
-use cb_panels::{Panels, multiply, multiply_panels, operate};
+use cb_operations::{Diagonal, Function, Operation, Region, Selection};
+use cb_panels::{Panels, multiply, multiply_panels, operate, select};
 use cb_samples::{SampleFault, block, entry};
+use cb_selections::{SelectionFault, compute};
 use cb_semirings::PlusTimes;
 use cb_serial::{binary, ternary, unary};
 use std::alloc::{AllocError, Global};
@@ -300,5 +302,99 @@ fn operations_by_threads_are_the_same(rt: HostRuntime) {
 #[test]
 fn refused_operations_by_threads_answer_memory(rt: HostRuntime) {
     let made = are_operations(&rt, rt.alloc(), 3, 7919);
+    assert!(&rt; is_right_or_refused(made));
+}
+
+/// What a selection made, None where it was refused.
+fn unless_refused<T>(made: Result<T, SelectionFault>) -> Result<Option<T>, AllocError> {
+    match made {
+        Ok(made) => Ok(Some(made)),
+        Err(SelectionFault::Memory) => Err(AllocError),
+        Err(SelectionFault::Refused(_refusal)) => Ok(None),
+    }
+}
+
+/// Whether what a selection by threads made, or that it was refused, is the same by one thread.
+fn is_same_made(
+    found: Result<PanelledMatrix<PlusTimes>, SelectionFault>,
+    wanted: Result<Block<PlusTimes>, SelectionFault>,
+) -> Result<bool, AllocError> {
+    match (unless_refused(found)?, unless_refused(wanted)?) {
+        (Some(found), Some(wanted)) => Ok(are_same(&found.into_block()?, &wanted)),
+        (None, None) => Ok(true),
+        _ => Ok(false),
+    }
+}
+
+/// Whether a selection from one matrix by so many threads is that by one thread.
+fn is_selected_of_one<R: Threads + Sync>(
+    rt: &R,
+    alloc: Global,
+    most: u32,
+    selection: Selection,
+    a: &Block<PlusTimes>,
+) -> Result<bool, AllocError>
+    requires { selections.operand_count_of selection ≡ 1 }
+{
+    let wanted = compute(alloc, selection, &[a]);
+    let a = panelled(alloc, a)?;
+    let found = select(rt, alloc, panels(most), selection, &[&a]);
+    is_same_made(found, wanted)
+}
+
+/// The same of two matrices.
+fn is_selected_of_two<R: Threads + Sync>(
+    rt: &R,
+    alloc: Global,
+    most: u32,
+    selection: Selection,
+    a: &Block<PlusTimes>,
+    b: &Block<PlusTimes>,
+) -> Result<bool, AllocError>
+    requires { selections.operand_count_of selection ≡ 2 }
+{
+    let wanted = compute(alloc, selection, &[a, b]);
+    let (a, b) = (panelled(alloc, a)?, panelled(alloc, b)?);
+    let found = select(rt, alloc, panels(most), selection, &[&a, &b]);
+    is_same_made(found, wanted)
+}
+
+/// Whether all are, of a square matrix and one of another shape.
+fn are_selections<R: Threads + Sync>(
+    rt: &R,
+    alloc: Global,
+    most: u32,
+    seed: u32,
+) -> Result<bool, SampleFault> {
+    let a = block(alloc, 30, 30, &scattered(alloc, 30, 24, 3, seed)?)?;
+    let b = block(alloc, 30, 30, &scattered(alloc, 20, 30, 2, !seed)?)?;
+    let narrow = block(alloc, 30, 29, &scattered(alloc, 30, 29, 7, seed ^ 5)?)?;
+    let region = Region::Lower(Diagonal { row: 0, column: 2 });
+    Ok(
+        is_selected_of_one(rt, alloc, most, Selection::Select(region), &a)?
+            && is_selected_of_one(rt, alloc, most, Selection::Apply(Function::Sum(5)), &a)?
+            && is_selected_of_one(rt, alloc, most, Selection::Apply(Function::Column), &a)?
+            && is_selected_of_one(rt, alloc, most, Selection::Diagonal, &a)?
+            && is_selected_of_one(rt, alloc, most, Selection::DiagonalMatrix, &a)?
+            && is_selected_of_two(rt, alloc, most, Selection::Exclude, &a, &b)?
+            && is_selected_of_two(rt, alloc, most, Selection::Exclude, &a, &narrow)?
+            && is_selected_of_two(rt, alloc, most, Selection::Kronecker, &a, &b)?,
+    )
+}
+
+#[test]
+fn selections_by_threads_are_the_same(rt: HostRuntime) {
+    for most in [0, 1, 2, 3, 5, 64] {
+        assert!(&rt;
+            are_selections(&rt, rt.alloc(), most, 7919) == Ok(true),
+            "{most} threads"
+        );
+    }
+}
+
+/// Passes whichever single allocation is refused (`rt try --test --fail-alloc N`, for each N in turn).
+#[test]
+fn refused_selections_by_threads_answer_memory(rt: HostRuntime) {
+    let made = are_selections(&rt, rt.alloc(), 3, 7919);
     assert!(&rt; is_right_or_refused(made));
 }

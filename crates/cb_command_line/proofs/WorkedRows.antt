@@ -8,7 +8,7 @@ use Rattle.cb_operations.specs.declared.operations.Operation.TheVariants.{Multip
 use Rattle.cb_command_line.specs.declared.jobs.EngineName.TheVariants.{Plain, Ranks}
 use Rattle.cb_operations.specs.declared.regions.Region.TheVariants.{Lower}
 use Rattle.cb_operations.specs.declared.selections.Selection.TheVariants.{Select}
-use Rattle.cb_command_line.specs.declared.tasks.GraphTask.TheVariants.{Levels}
+use Rattle.cb_operations.specs.declared.graphs.GraphTask.TheVariants.{Levels}
 use Rattle.cb_command_line.specs.Asked.{engine_in, entry, graph_tasks, kept_in, operations, semiring_in}
 use Rattle.cb_command_line.specs.Lines.{joined}
 use Rattle.cb_command_line.specs.Options.{word}

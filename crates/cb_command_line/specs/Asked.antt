@@ -10,6 +10,12 @@ use Rattle.cb_semirings.specs.Names.{named}
 use Rattle.cb_semirings.specs.declared.names.SemiringName.{SemiringName}
 use Rattle.cb_matrix.specs.declared.passing.Test.{Test}
 use Rattle.cb_matrix.specs.declared.passing.Test.TheVariants.{Below, Above, Equal}
+use Rattle.cb_operations.specs.declared.graphs.Beside.{Beside}
+use Rattle.cb_operations.specs.declared.graphs.Beside.TheVariants.{Nothing, Sources, Values}
+use Rattle.cb_operations.specs.declared.graphs.GraphTask.{GraphTask}
+use Rattle.cb_operations.specs.declared.graphs.GraphTask.TheVariants.{Levels, Distances, LevelsFrom, DistancesFrom, LevelsGiven}
+use Rattle.cb_operations.specs.declared.graphs.GraphTask.TheVariants.{DistancesGiven, Parents, Components, Triangles, TriangleCounts}
+use Rattle.cb_operations.specs.declared.graphs.GraphTask.TheVariants.{RowDegrees, ColumnDegrees}
 use Rattle.cb_operations.specs.declared.operations.Operation.{Operation}
 use Rattle.cb_operations.specs.declared.operations.Operation.TheVariants.{Multiply, MultiplyMasked, MultiplyVector, Transpose}
 use Rattle.cb_operations.specs.declared.operations.Operation.TheVariants.{RowSums, ColumnSums, Add, Times, Prune}
@@ -21,6 +27,7 @@ use Rattle.cb_operations.specs.declared.regions.Region.{Region}
 use Rattle.cb_operations.specs.declared.regions.Region.TheVariants.{Lower, Upper, On, Off}
 use Rattle.cb_operations.specs.declared.functions.Function.{Function}
 use Rattle.cb_operations.specs.declared.functions.Function.TheVariants as function
+use Rattle.cb_operations.specs.Graphs.{beside_of}
 use Rattle.cb_operations.specs.SelectionAnswers.{operand_count_of}
 use Rattle.cb_command_line.specs.Options.{integer, is_there, is_word, number, place, word}
 use Rattle.cb_command_line.specs.declared.jobs.EngineName.{EngineName}
@@ -32,10 +39,6 @@ use Rattle.cb_command_line.specs.declared.tasks.Task.{Task}
 use Rattle.cb_command_line.specs.declared.tasks.Task.TheVariants as task
 use Rattle.cb_command_line.specs.declared.tasks.SelectionTask.{SelectionTask}
 use Rattle.cb_command_line.specs.declared.tasks.SelectionTask.TheVariants.{Selected, Extract}
-use Rattle.cb_command_line.specs.declared.tasks.GraphTask.{GraphTask}
-use Rattle.cb_command_line.specs.declared.tasks.GraphTask.TheVariants.{Levels, Distances, LevelsFrom, DistancesFrom, LevelsGiven}
-use Rattle.cb_command_line.specs.declared.tasks.GraphTask.TheVariants.{DistancesGiven, Parents, Components, Triangles, TriangleCounts}
-use Rattle.cb_command_line.specs.declared.tasks.GraphTask.TheVariants.{RowDegrees, ColumnDegrees}
 
 module _ {X : Type 0} where
   -- what stands beside a word in a table
@@ -174,17 +177,15 @@ abbrev pub selection_file_names : SelectionTask → List Text
 selection_file_names (Selected selection) = if operand_count_of selection == 1 then codes "A" ∷ [] else codes "A" ∷ codes "B" ∷ []
 selection_file_names (Extract lists) = list_names lists
 
-abbrev pub graph_file_names : GraphTask → List Text
-graph_file_names LevelsFrom = codes "A" ∷ codes "s" ∷ []
-graph_file_names DistancesFrom = codes "A" ∷ codes "s" ∷ []
-graph_file_names LevelsGiven = codes "A" ∷ codes "x" ∷ []
-graph_file_names DistancesGiven = codes "A" ∷ codes "x" ∷ []
-graph_file_names _ = codes "A" ∷ []
+abbrev pub names_with : Beside → List Text
+names_with Nothing = codes "A" ∷ []
+names_with Sources = codes "A" ∷ codes "s" ∷ []
+names_with Values = codes "A" ∷ codes "x" ∷ []
 
 abbrev pub file_names : Task → List Text
 file_names (task.Operation operation semiring) = operand_names operation
 file_names (task.Selection selection semiring) = selection_file_names selection
-file_names (task.Graph graph) = graph_file_names graph
+file_names (task.Graph graph) = names_with (beside_of graph)
 
 -- the command asks for a trace
 abbrev pub is_traced : List Row → Bool

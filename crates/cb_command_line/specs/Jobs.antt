@@ -4,6 +4,7 @@ use Rattle.clap.specs.declared.error.kind.ErrorKind.{ErrorKind}
 use Rattle.clap.specs.declared.error.kind.ErrorKind.TheVariants.{DisplayHelp, DisplayVersion}
 use Rattle.cb_semirings.specs.declared.names.SemiringName.{SemiringName}
 use Rattle.cb_semirings.specs.declared.names.SemiringName.TheVariants.{PlusTimes, MinPlus, OrAnd, MaxMin}
+use Rattle.cb_operations.specs.Graphs as graphs
 use Rattle.cb_operations.specs.OperationAnswers.{operand_count_of}
 use Rattle.cb_operations.specs.SelectionAnswers as selections
 use Rattle.cb_command_line.specs.declared.lists.Lists.{Lists}
@@ -12,8 +13,6 @@ use Rattle.cb_command_line.specs.declared.tasks.Task.{Task}
 use Rattle.cb_command_line.specs.declared.tasks.Task.TheVariants.{Operation, Selection, Graph}
 use Rattle.cb_command_line.specs.declared.tasks.SelectionTask.{SelectionTask}
 use Rattle.cb_command_line.specs.declared.tasks.SelectionTask.TheVariants.{Selected, Extract}
-use Rattle.cb_command_line.specs.declared.tasks.GraphTask.{GraphTask}
-use Rattle.cb_command_line.specs.declared.tasks.GraphTask.TheVariants.{LevelsFrom, DistancesFrom, LevelsGiven, DistancesGiven}
 
 -- whether a semiring is one in the sense of algebra, whose product distributes over its sum
 abbrev pub is_distributive : SemiringName → Bool
@@ -34,19 +33,11 @@ abbrev pub selection_file_count_of : SelectionTask → ℕ
 selection_file_count_of (Selected selection) = selections.operand_count_of selection
 selection_file_count_of (Extract lists) = 1 + list_count_of lists
 
--- how many files a task on a graph reads
-abbrev pub graph_file_count_of : GraphTask → ℕ
-graph_file_count_of LevelsFrom = 2
-graph_file_count_of DistancesFrom = 2
-graph_file_count_of LevelsGiven = 2
-graph_file_count_of DistancesGiven = 2
-graph_file_count_of _ = 1
-
 -- how many files a task reads
 abbrev pub file_count_of : Task → ℕ
 file_count_of (Operation operation semiring) = operand_count_of operation
 file_count_of (Selection task semiring) = selection_file_count_of task
-file_count_of (Graph task) = graph_file_count_of task
+file_count_of (Graph task) = graphs.operand_count_of task
 
 -- the command line asks for help, or for the version
 abbrev pub AsksForText : ErrorKind → Type 0

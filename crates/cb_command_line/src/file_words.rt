@@ -1,14 +1,15 @@
 //! Reads the names of a job's files.
 ghost use Rattle.std.specs.Prelude.{◌≡◌, ◌+◌, IfOk, IfSome, length, map, vec_len};
+ghost use Rattle.cb_operations.specs.Graphs.{count_with};
 ghost use Rattle.cb_operations.specs.OperationAnswers.{operand_count_of};
-ghost use Rattle.cb_command_line.specs.Asked.{AreWordsOf, file_names, graph_file_names, list_names, operand_names, selection_file_names};
-ghost use Rattle.cb_command_line.specs.Jobs.{file_count_of, graph_file_count_of, list_count_of, selection_file_count_of};
+ghost use Rattle.cb_command_line.specs.Asked.{AreWordsOf, file_names, list_names, names_with, operand_names, selection_file_names};
+ghost use Rattle.cb_command_line.specs.Jobs.{file_count_of, list_count_of, selection_file_count_of};
 ghost use Rattle.cb_command_line.specs.Options.{rows_in};
 
 use crate::lists::Lists;
 use crate::options::word_of;
-use crate::tasks::{GraphTask, SelectionTask, Task};
-use cb_operations::Operation;
+use crate::tasks::{SelectionTask, Task};
+use cb_operations::{Beside, Operation};
 use clap::ArgMatches;
 use std::alloc::{AllocError, Global};
 
@@ -50,19 +51,15 @@ fn selected(task: SelectionTask) -> &'static [&'static str]
     }
 }
 
-/// The arguments that name the files of a task on a graph, in the order in which they are read.
-fn searched(task: GraphTask) -> &'static [&'static str]
-    ensures count { length result.now ≡ graph_file_count_of task }
-    ensures names { map (λ name. name.now) result.now ≡ graph_file_names task }
+/// The arguments that name a graph and what a task takes beside it, in the order in which they are read.
+fn searched(beside: Beside) -> &'static [&'static str]
+    ensures count { length result.now ≡ count_with beside }
+    ensures names { map (λ name. name.now) result.now ≡ names_with beside }
 {
-    match task {
-        GraphTask::Levels { .. } | GraphTask::Distances { .. } | GraphTask::Parents { .. } => &[
-            "A",
-        ],
-        GraphTask::LevelsFrom | GraphTask::DistancesFrom => &["A", "s"],
-        GraphTask::LevelsGiven | GraphTask::DistancesGiven => &["A", "x"],
-        GraphTask::Components | GraphTask::Triangles | GraphTask::TriangleCounts => &["A"],
-        GraphTask::RowDegrees | GraphTask::ColumnDegrees => &["A"],
+    match beside {
+        Beside::Nothing => &["A"],
+        Beside::Sources => &["A", "s"],
+        Beside::Values => &["A", "x"],
     }
 }
 
@@ -74,7 +71,7 @@ pub fn arguments(task: Task) -> &'static [&'static str]
     match task {
         Task::Operation(operation, _) => operands(operation),
         Task::Selection(task, _) => selected(task),
-        Task::Graph(task) => searched(task),
+        Task::Graph(task) => searched(task.beside()),
     }
 }
 

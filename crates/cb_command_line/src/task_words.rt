@@ -5,9 +5,9 @@ ghost use Rattle.cb_command_line.specs.Options.{rows_in};
 
 use crate::options::{has_word, is_there, number_of, place_of, word_of};
 use crate::selection_words::{lists_of, selection_of};
-use crate::tasks::{GraphTask, SelectionTask, Task};
+use crate::tasks::{SelectionTask, Task};
 use cb_matrix::Test;
-use cb_operations::Operation;
+use cb_operations::{GraphTask, Operation};
 use cb_semirings::SemiringName;
 use clap::ArgMatches;
 

@@ -1,2 +1,2 @@
--- For this crate alone. NamedColumns: the columns that a vector's entries name, added up one after another, are the product.
-mod NamedColumns
+-- For this crate alone. ListedColumns: the columns that have entries, each times the vector's value there, are the product.
+mod ListedColumns

@@ -4,10 +4,10 @@
 //! to the same sums. Otherwise use `cb_product` with a block of one column: its result is a sparse vector, and its cost
 //! doesn't depend on the number of rows.
 //!
-//! The product is a sum of columns of the block: for each entry of the vector, at row k, column k times that entry. The
-//! vector's entries and the block's columns both ascend, so one pass over both finds all columns. This is the sum by columns
-//! of Gilbert, Moler and Schreiber, Sparse Matrices in MATLAB (SIAM J. Matrix Anal. Appl. 1992, section 3.1), without
-//! marks of the rows that have a sum.
+//! The product is a sum of columns of the block: column k times the vector's entry in row k. The block's columns and the
+//! vector's entries both ascend, so one pass over both finds all entries. This is the sum by columns of Gilbert, Moler and
+//! Schreiber, Sparse Matrices in MATLAB (SIAM J. Matrix Anal. Appl. 1992, section 3.1), without marks of the rows that have a
+//! sum.
 #![tactic(auto)]
 
 ghost use Rattle.std.specs.Prelude.{◌≡◌, ℕ, ◌<◌, ◌≤◌, Some, length, All, AllPairs, slice_index};
@@ -18,16 +18,15 @@ ghost use Rattle.cb_product.specs.SparseColumn.{scaled_at};
 ghost use Rattle.cb_product.specs.DenseSums.{AddsToSums};
 
 use cb_dcsc::Block;
-use cb_matrix::Matrix;
 use cb_semirings::Semiring;
 
 /// Adds the product of a block and a vector to dense sums, one for each row of the block.
 ///
-/// The vector is a matrix of one column, with as many rows as the block has columns.
+/// The vector is a block of one column, with as many rows as the first block has columns.
 ///
-/// Costs O(entries of the vector + nonempty columns of the block + products), and no memory. Columns after the one that the
-/// vector's last entry names aren't visited.
-pub fn add_product<S: Semiring>(sums: &mut [u64], matrix: &Block<S>, vector: &Matrix<S>)
+/// Costs O(entries of the vector + nonempty columns of the block + products), and no memory. The entries of a vector that has
+/// one in each row aren't searched.
+pub fn add_product<S: Semiring>(sums: &mut [u64], matrix: &Block<S>, vector: &Block<S>)
     requires length { length sums.old ≡ matrix.now.shape.rows }
     requires values { All (IsValue S.arithmetic) sums.old }
     requires agree { matrix.now.shape.cols ≡ vector.now.shape.rows }
@@ -38,26 +37,32 @@ pub fn add_product<S: Semiring>(sums: &mut [u64], matrix: &Block<S>, vector: &Ma
 {
     prove_eq!(matrix.shape().cols(), vector.shape().rows());
     let columns = matrix.column_numbers();
-    let entries = vector.entries();
+    let (places, factors) = (vector.row_numbers(), vector.values());
     let mut next = 0;
-    for entry in entries {
-        next = advance(columns, next, entry.row);
-        if next < columns.len() && columns[next] == entry.row {
-            let (rows, values) = matrix.nth_column(next);
-            add_column::<S>(sums, rows, values, entry.value);
+    for n in 0..columns.len() {
+        next = advance(places, next, columns[n]);
+        if next < places.len() && places[next] == columns[n] {
+            let (rows, values) = matrix.nth_column(n);
+            add_column::<S>(sums, rows, values, factors[next]);
         }
     }
 }
 
-/// Returns the place of the first of these columns that isn't before `column`. Those at places below `from` are before it.
+/// Returns the index of the first of these rows, which ascend, that isn't before `row`. Those at indices below `from` are
+/// before it. In a vector with an entry in each row, it is found at once.
 #[inline(always)]
-fn advance(columns: &[u32], from: usize, column: u32) -> usize
-    requires { (k : ℕ) → k < from → slice_index columns.now k < column }
-    ensures before { (k : ℕ) → k < result → slice_index columns.now k < column }
-    ensures reached { result < length columns.now → column ≤ slice_index columns.now result }
+fn advance(rows: &[u32], from: usize, row: u32) -> usize
+    requires ascending { AllPairs (λ i j. i < j) rows.now }
+    requires passed { (k : ℕ) → k < from → slice_index rows.now k < row }
+    ensures before { (k : ℕ) → k < result → slice_index rows.now k < row }
+    ensures reached { result < length rows.now → row ≤ slice_index rows.now result }
 {
+    let own = row as usize;
+    if own < rows.len() && rows[own] == row {
+        return own;
+    }
     let mut n = from;
-    while n < columns.len() && columns[n] < column {
+    while n < rows.len() && rows[n] < row {
         n += 1;
     }
     n

@@ -1,10 +1,10 @@
 -- What C gets of a call that keeps a matrix.
-use Rattle.std.specs.Prelude.{◌≡◌, ℕ, ◌⊎◌, Bool, List, length, Option, Some, IfSome}
+use Rattle.std.specs.Prelude.{◌≡◌, ℕ, ◌==◌, ◌⊎◌, Bool, List, cond, length, Option, None, Some, IfSome}
 use Rattle.std.specs.Borrow.{MutBor}
 use Rattle.cb_semirings.specs.Names.{arithmetic_of, numbered}
 use Rattle.cb_semirings.specs.Arithmetic.{Arithmetic}
 use Rattle.cb_semirings.specs.declared.names.SemiringName.{SemiringName}
-use Rattle.cb_matrix.specs.Sparse.{Sparse}
+use Rattle.cb_operations.specs.declared.graphs.GraphTask.{GraphTask}
 use Rattle.cb_operations.specs.declared.operations.Operation.{Operation}
 use Rattle.cb_operations.specs.declared.selections.Selection.{Selection}
 use Rattle.cb_lists.specs.declared.lists.Columns.{Columns}
@@ -12,21 +12,21 @@ use Rattle.cb_kept.specs.declared.triples.Triple.{Triple}
 use Rattle.cb_kept.specs.declared.faults.Fault.{Fault}
 use Rattle.cb_kept.specs.declared.faults.Fault.TheVariants.{Memory}
 use Rattle.cb_kept.specs.declared.kept.Kept.{Kept}
-use Rattle.cb_kept.specs.Refusals.{code_of, over, read_faults, list_faults, IsMemory}
+use Rattle.cb_kept.specs.Refusals.{code_of, over, read_faults, list_faults}
 use Rattle.cb_kept.specs.KeptAnswers.{kept_faults, HasMadeKept, OverName, IsKeptOf}
 use Rattle.cb_kept.specs.Kept.{matrix_in}
 use Rattle.cb_kept.specs.KeptSelections.{selection_faults, HasSelected, HasSelectedColumns, number_faults, IsKeptExtract}
 use Rattle.cb_kept.specs.KeptTurned.{turned_faults, IsKeptTurned}
 use Rattle.cb_selections.specs.declared.updates.WriteBack.{WriteBack}
 use Rattle.cb_kept.specs.KeptUpdates.{update_faults, HasUpdated, HasUpdatedColumns}
-use Rattle.cb_kept.specs.declared.axes.Axis.{Axis}
-use Rattle.cb_kept.specs.KeptDegrees.{IsKeptDegrees}
 use Rattle.cb_kept.specs.KeptProducts.{outside_faults, IsKeptOutside}
 use Rattle.cb_shares.specs.Shares.{AreEnds}
 use Rattle.cb_kept.specs.declared.kept_masked_panels.Allowed.{Allowed}
 use Rattle.cb_kept.specs.KeptPanels.{factor_faults, join_faults, IsKeptJoin, IsKeptMaskedPanel, IsKeptPanel}
 use Rattle.cb_kept.specs.KeptShares.{pair_faults, HasMadeColumns}
-use Rattle.cb_kept.specs.KeptGraphs.{searches_faults, given_faults, IsKeptColumn}
+use Rattle.cb_kept.specs.declared.kept_graphs.KeptAnswer.{KeptAnswer}
+use Rattle.cb_kept.specs.declared.kept_graphs.KeptAnswer.TheVariants.{Matrix, Number}
+use Rattle.cb_kept.specs.KeptGraphs.{graph_faults, IsGraphAnswer}
 use Rattle.cb_kept.specs.Triples.{triple_faults, IsKeptTriples}
 use Rattle.cb_kept.specs.KeptTexts.{IsKeptRead}
 use Rattle.cb_ffi.specs.declared.handles.Owned.{Owned}
@@ -53,7 +53,11 @@ IsKeptOperation operation ks code old new = IsKeptCall (kept_faults operation ks
 unfoldable pub IsSelectionCall : Option Selection → List Kept → ℕ → Owned → Owned → Type 0
 IsSelectionCall selection ks code old new = IsKeptCall (selection_faults selection ks) (HasSelected selection ks) code old new
 
-unfoldable pub IsExtractCall : List ℕ → List ℕ → Kept → ℕ → Owned → Owned → Type 0
+-- a list, unless all numbers are meant: those of a number other than 0
+abbrev pub unless_all : ℕ → List ℕ → Option (List ℕ)
+unless_all all numbers = cond (all == 0) (Some numbers) None
+
+unfoldable pub IsExtractCall : Option (List ℕ) → Option (List ℕ) → Kept → ℕ → Owned → Owned → Type 0
 IsExtractCall rows cols k code old new = IsKeptCall (number_faults rows cols (matrix_in k).shape) (IsKeptExtract rows cols k) code old new
 
 unfoldable pub IsTurnedCall : Bool → Bool → Kept → Kept → ℕ → Owned → Owned → Type 0
@@ -67,22 +71,26 @@ IsUpdateCall how a b mask code old new = IsKeptCall (update_faults how a b mask)
 unfoldable pub IsOutsideCall : Kept → Kept → Kept → ℕ → Owned → Owned → Type 0
 IsOutsideCall a b mask code old new = IsKeptCall (outside_faults a b mask) (IsKeptOutside a b mask) code old new
 
--- the same of the degrees of rows or columns
-unfoldable pub IsDegreesCall : Axis → Kept → ℕ → Owned → Owned → Type 0
-IsDegreesCall axis k code old new = IsKeptCall IsMemory (IsKeptDegrees axis k) code old new
-
--- the same of a search from several sources in a kept graph, over a semiring and its name, and from initial values
-unfoldable pub IsNumbersFromCall : SemiringName → (Sparse → List ℕ → Sparse → Type 0) → List ℕ → Kept → ℕ → Owned → Owned → Type 0
-IsNumbersFromCall name are sources k code old new = IsKeptCall (searches_faults name k sources) (IsKeptColumn (are (matrix_in k) sources)) code old new
-
-unfoldable pub IsNumbersGivenCall : SemiringName → (Sparse → Sparse → Sparse → Type 0) → Kept → Kept → ℕ → Owned → Owned → Type 0
-IsNumbersGivenCall name are k given code old new =
-    IsKeptCall (given_faults name k given) (IsKeptColumn (are (matrix_in k) (matrix_in given))) code old new
-
 -- C owns this kept matrix; or memory for it was refused, and C has what it had
 abbrev pub HasHandedOut : ℕ → Owned → Owned → Kept → Type 0
 HasHandedOut code old new k = ((code ≡ 0) × Has (λ x. x ≡ k) new) ⊎ ((code ≡ code_of Memory) × (new ≡ old))
 
+-- ---- tasks on graphs: C has a place for a kept matrix, and one for a number
+-- C owns an answer, which has a property, or has it as a number; the other place is as it was
+abbrev pub HasEither : (KeptAnswer → Type 0) → (Owned × ℕ) → (Owned × ℕ) → Type 0
+HasEither is old new = (Has (λ k. is (Matrix k)) new.0 × (new.1 ≡ old.1)) ⊎ (is (Number new.1) × (new.0 ≡ old.0))
+
+-- what C gets of a task on a kept graph, from sources or initial values if it takes these
+unfoldable pub IsGraphCall : Option GraphTask → Kept → List ℕ → Kept → ℕ → (Owned × ℕ) → (Owned × ℕ) → Type 0
+IsGraphCall task k sources values code old new =
+    IsCall (graph_faults task k sources values) (HasEither (IsGraphAnswer task k sources values) old) code old new
+
+-- this answer is in its place; or memory for a kept matrix was refused, and C has what it had
+abbrev pub HasWritten : ℕ → (Owned × ℕ) → (Owned × ℕ) → KeptAnswer → Type 0
+HasWritten code old new (Matrix k) = HasHandedOut code old.0 new.0 k × (new.1 ≡ old.1)
+HasWritten code old new (Number n) = (code ≡ 0) × (new.1 ≡ n) × (new.0 ≡ old.0)
+
+-- ---- from lists, triples and texts
 -- what C gets of the call that keeps the matrix of lists
 abbrev pub IsKeepCall : ℕ → Columns → ℕ → Owned → Owned → Type 0
 IsKeepCall semiring a code old new =

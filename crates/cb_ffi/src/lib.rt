@@ -21,48 +21,40 @@
 
 ghost use Rattle.std.specs.Prelude.{◌≡◌, ◌≢◌, [], ◌∷◌, length, ◌==◌, not, Option, Some, None, IfSome, IsSome, IfOk, IfErr, option_copied};
 ghost use Rattle.cb_semirings.specs.Names.{arithmetic_of, numbered};
-ghost use Rattle.cb_semirings.specs.declared.names.SemiringName.TheVariants as name_is;
 ghost use Rattle.cb_matrix.specs.Sparse.{at};
 ghost use Rattle.cb_operations.specs.declared.operations.Operation.TheVariants as operation_is;
 ghost use Rattle.cb_operations.specs.OperationAnswers.{operand_count_of};
 ghost use Rattle.cb_operations.specs.Operands.{lent_in};
-ghost use Rattle.cb_searches.specs.Walks.{AreDistances, AreLevels};
-ghost use Rattle.cb_searches.specs.SeveralSources.{AreDistancesFrom, AreLevelsFrom};
-ghost use Rattle.cb_searches.specs.GivenNumbers.{AreDistancesGiven, AreLevelsGiven};
-ghost use Rattle.cb_graphs.specs.Triangles.{triangle_count, stopped};
 ghost use Rattle.cb_lists.specs.Lists.{HasLists};
 ghost use Rattle.cb_kept.specs.Refusals.{code_of, IsMemory, first_over};
 ghost use Rattle.cb_kept.specs.Kept.{matrix_in, semiring_of};
 ghost use Rattle.cb_kept.specs.KeptAnswers.{prune_of, IsSummary};
-ghost use Rattle.cb_kept.specs.KeptGraphs.{search_faults, square_faults, IsKeptColumn, IsKeptComponents, IsKeptParents};
+ghost use Rattle.cb_kept.specs.KeptGraphs.{graph_task_of};
 ghost use Rattle.cb_reshape.specs.Sums.{matrix_total};
 ghost use Rattle.cb_operations.specs.declared.selections.Selection.{Selection as Selected};
 ghost use Rattle.cb_operations.specs.declared.selections.Selection.TheVariants as selection_is;
 ghost use Rattle.cb_operations.specs.SelectionAnswers as selections;
 ghost use Rattle.cb_kept.specs.KeptSelections.{function_of, IsPowerOf, region_of};
 ghost use Rattle.cb_kept.specs.KeptUpdates.{write_back_of};
-ghost use Rattle.cb_kept.specs.declared.axes.Axis.TheVariants as axis_is;
 ghost use Rattle.cb_kept.specs.declared.kept_masked_panels.Allowed.TheVariants as allowed_is;
 ghost use Rattle.cb_kept.specs.KeptTexts.{IsKeptText};
 ghost use Rattle.cb_kept.specs.Misfits.{IsFirst, IsFrom, IsMisfitOfLists, IsMisfitOfTriples};
 ghost use Rattle.cb_ffi.specs.Calls.{IsCall, IsLine};
-ghost use Rattle.cb_ffi.specs.KeptCalls.{HasHandedOut, IsColumnsCall, IsDegreesCall, IsEndsCall, IsEntryEndsCall, IsExtractCall, IsJoinCall, IsKeepCall, IsKeptCall, IsKeptOperation, IsMaskedPanelCall, IsNumbersFromCall, IsNumbersGivenCall, IsOutsideCall, IsOwnedJoinCall, IsPanelCall, IsReadCall, IsSelectionCall, IsSelectionColumnsCall, IsTriplesCall, IsTurnedCall, IsUpdateCall, IsUpdateColumnsCall};
+ghost use Rattle.cb_ffi.specs.KeptCalls.{HasHandedOut, HasWritten, IsColumnsCall, IsEndsCall, IsEntryEndsCall, IsExtractCall, IsGraphCall, IsJoinCall, IsKeepCall, IsKeptOperation, IsMaskedPanelCall, IsOutsideCall, IsOwnedJoinCall, IsPanelCall, IsReadCall, IsSelectionCall, IsSelectionColumnsCall, IsTriplesCall, IsTurnedCall, IsUpdateCall, IsUpdateColumnsCall, unless_all};
 
 mod handles;
 
 use cb_kept::{
-    Allowed, Axis, Fault, Kept, Summary, Text, Triple, first_outside, function_of, keep_lists,
-    keep_triples, kept_columns, kept_components, kept_degrees, kept_ends, kept_entry_ends,
-    kept_extract, kept_join, kept_masked_panel, kept_numbers, kept_numbers_from,
-    kept_numbers_given, kept_outside, kept_panel, kept_parents, kept_selection,
-    kept_selection_columns, kept_total, kept_triangles, kept_turned_product, kept_update,
+    Allowed, Fault, Kept, KeptAnswer, Summary, Text, Triple, first_outside, function_of,
+    graph_task_of, keep_lists, keep_triples, kept_columns, kept_ends, kept_entry_ends,
+    kept_extract, kept_graph, kept_join, kept_masked_panel, kept_outside, kept_panel,
+    kept_selection, kept_selection_columns, kept_total, kept_turned_product, kept_update,
     kept_update_columns, lists_of, misfit_of_lists, misfit_of_triples, operate, power_of, prune_of,
     read_kept, region_of, summary_of, text_of, value_at, write_back_of,
 };
 use cb_lists::Columns;
 use cb_operations::{Operation, Selection};
 use cb_selections::WriteBack;
-use cb_semirings::{MinPlus, OrAnd};
 pub use handles::{Lent, Owned};
 use handles::{borrowed, hand_out, take_back};
 use std::alloc::Global;
@@ -96,6 +88,24 @@ fn put_kept(alloc: Global, out: &mut Owned, answer: Result<Kept, Fault>) -> u32
             0
         }
         Err(_) => Fault::Memory.code(),
+    }
+}
+
+/// Hands the answer of a task on a graph to C: a kept matrix to `out`, which takes one allocation, or a number to `count`; or
+/// returns the number of the fault.
+fn put_answer(
+    alloc: Global,
+    out: &mut Owned,
+    count: &mut u64,
+    answer: Result<KeptAnswer, Fault>,
+) -> u32
+    ensures ok { IfOk answer (HasWritten result (out.old, count.old) (out.new, count.new)) }
+    ensures refused { IfErr answer (λ f. (result ≡ code_of f) × (result ≢ 0) × (out.new ≡ out.old) × (count.new ≡ count.old)) }
+{
+    match answer {
+        Ok(KeptAnswer::Matrix(kept)) => put_kept(alloc, out, Ok(kept)),
+        Ok(KeptAnswer::Number(number)) => put(count, Ok(number)),
+        Err(fault) => fault.code(),
     }
 }
 
@@ -152,13 +162,6 @@ fn update_kept(
     ensures { IsUpdateCall how old.now new.now (option_copied mask.entry) result out.old out.new }
 {
     put_kept(alloc, out, kept_update(alloc, how, old, new, mask))
-}
-
-/// Keeps the degrees of the rows or columns of a kept matrix, or returns the number of the fault.
-fn degrees_kept(alloc: Global, axis: Axis, kept: &Kept, out: &mut Owned) -> u32
-    ensures { IsDegreesCall axis kept.now result out.old out.new }
-{
-    put_kept(alloc, out, kept_degrees(alloc, axis, kept))
 }
 
 /// Writes where the ranges of a product's columns end, or returns the number of the fault.
@@ -466,17 +469,29 @@ pub extern "C" fn cbgrid_kernel_kept_part(
     select_kept(alloc, Some(part), &[borrowed(a)], out)
 }
 
-/// The rows and columns of a kept matrix by their numbers, in any order, with repetitions.
+/// A list of numbers, unless all are meant.
+fn unless_all(all: u32, numbers: &[u32]) -> Option<&[u32]>
+    ensures { option_copied result ≡ unless_all all numbers.now }
+{
+    if all == 0 { Some(numbers) } else { None }
+}
+
+/// The rows and columns of a kept matrix by their numbers, in any order, with repetitions. With `all_rows` or `all_columns` other
+/// than 0, all of them, whatever the list has.
 #[unsafe(no_mangle)]
 pub extern "C" fn cbgrid_kernel_kept_extract(
     alloc: Global,
     a: Lent,
+    all_rows: u32,
     rows: &[u32],
+    all_columns: u32,
     columns: &[u32],
     out: &mut Owned,
 ) -> u32
-    ensures { IsExtractCall rows.now columns.now a.kept.now result out.old out.new }
+    ensures { IsExtractCall (unless_all all_rows rows.now) (unless_all all_columns columns.now) a.kept.now result out.old out.new }
 {
+    let rows = unless_all(all_rows, rows);
+    let columns = unless_all(all_columns, columns);
     let answer = kept_extract(alloc, borrowed(a), rows, columns);
     put_kept(alloc, out, answer)
 }
@@ -592,22 +607,6 @@ pub extern "C" fn cbgrid_kernel_kept_update_masked(
     update_kept(alloc, how, borrowed(a), borrowed(b), allowed, out)
 }
 
-/// How many entries each row of a kept matrix has, in one column over plus-times.
-#[unsafe(no_mangle)]
-pub extern "C" fn cbgrid_kernel_kept_row_degrees(alloc: Global, a: Lent, out: &mut Owned) -> u32
-    ensures { IsDegreesCall axis_is.Rows a.kept.now result out.old out.new }
-{
-    degrees_kept(alloc, Axis::Rows, borrowed(a), out)
-}
-
-/// How many entries each column of a kept matrix has, in one column over plus-times.
-#[unsafe(no_mangle)]
-pub extern "C" fn cbgrid_kernel_kept_column_degrees(alloc: Global, a: Lent, out: &mut Owned) -> u32
-    ensures { IsDegreesCall axis_is.Columns a.kept.now result out.old out.new }
-{
-    degrees_kept(alloc, Axis::Columns, borrowed(a), out)
-}
-
 /// The semiring's sum of all values of a kept matrix.
 #[unsafe(no_mangle)]
 pub extern "C" fn cbgrid_kernel_kept_total(a: Lent) -> u64
@@ -616,92 +615,26 @@ pub extern "C" fn cbgrid_kernel_kept_total(a: Lent) -> u64
     kept_total(borrowed(a))
 }
 
-/// The column of levels from a source, over min-plus, in a graph that is kept over or-and.
+/// Computes the task on a graph that has a number ([`graph_task_of`]), from `source` if it has one source. `sources` are those
+/// of a task from several sources, and `values` a column over min-plus with the initial values of a task from these; other
+/// tasks take any list and any kept matrix there, and don't read them. The answer is a kept matrix, at `out`, or a number, at
+/// `count`; the other one is left as it was ([`kept_graph`]).
 #[unsafe(no_mangle)]
-pub extern "C" fn cbgrid_kernel_kept_levels(
+pub extern "C" fn cbgrid_kernel_kept_graph(
     alloc: Global,
-    a: Lent,
+    task: u32,
     source: u32,
-    out: &mut Owned,
-) -> u32
-    ensures { IsKeptCall (search_faults name_is.OrAnd a.kept.now source) (IsKeptColumn (AreLevels (matrix_in a.kept.now) source)) result out.old out.new }
-{
-    let answer = kept_numbers::<OrAnd>(alloc, borrowed(a), source);
-    put_kept(alloc, out, answer)
-}
-
-/// The column of distances from a source, in a graph that is kept over min-plus. Transposes the graph.
-#[unsafe(no_mangle)]
-pub extern "C" fn cbgrid_kernel_kept_distances(
-    alloc: Global,
-    a: Lent,
-    source: u32,
-    out: &mut Owned,
-) -> u32
-    ensures { IsKeptCall (search_faults name_is.MinPlus a.kept.now source) (IsKeptColumn (AreDistances (matrix_in a.kept.now) source)) result out.old out.new }
-{
-    let answer = kept_numbers::<MinPlus>(alloc, borrowed(a), source);
-    put_kept(alloc, out, answer)
-}
-
-/// The levels from several sources, a column over min-plus for each, in a graph that is kept over or-and. Transposes
-/// the graph once for all sources.
-#[unsafe(no_mangle)]
-pub extern "C" fn cbgrid_kernel_kept_levels_from(
-    alloc: Global,
-    a: Lent,
     sources: &[u32],
-    out: &mut Owned,
-) -> u32
-    ensures { IsNumbersFromCall name_is.OrAnd AreLevelsFrom sources.now a.kept.now result out.old out.new }
-{
-    let answer = kept_numbers_from::<OrAnd>(alloc, borrowed(a), sources);
-    put_kept(alloc, out, answer)
-}
-
-/// The distances from several sources, a column for each, in a graph that is kept over min-plus. Transposes the graph
-/// once for all sources.
-#[unsafe(no_mangle)]
-pub extern "C" fn cbgrid_kernel_kept_distances_from(
-    alloc: Global,
+    values: Lent,
     a: Lent,
-    sources: &[u32],
     out: &mut Owned,
+    count: &mut u64,
 ) -> u32
-    ensures { IsNumbersFromCall name_is.MinPlus AreDistancesFrom sources.now a.kept.now result out.old out.new }
+    ensures { IsGraphCall (graph_task_of task source) a.kept.now sources.now values.kept.now result (out.old, count.old) (out.new, count.new) }
 {
-    let answer = kept_numbers_from::<MinPlus>(alloc, borrowed(a), sources);
-    put_kept(alloc, out, answer)
-}
-
-/// The levels from initial values, which a kept column over min-plus has, in a graph that is kept over or-and. Transposes
-/// the graph.
-#[unsafe(no_mangle)]
-pub extern "C" fn cbgrid_kernel_kept_levels_given(
-    alloc: Global,
-    a: Lent,
-    given: Lent,
-    out: &mut Owned,
-) -> u32
-    ensures { IsNumbersGivenCall name_is.OrAnd AreLevelsGiven a.kept.now given.kept.now result out.old out.new }
-{
-    let answer = kept_numbers_given::<OrAnd>(alloc, borrowed(a), borrowed(given));
-    put_kept(alloc, out, answer)
-}
-
-/// The distances from initial values, which a kept column over min-plus has, in a graph that is kept over min-plus.
-/// Transposes the graph.
-#[unsafe(no_mangle)]
-pub extern "C" fn cbgrid_kernel_kept_distances_given(
-    alloc: Global,
-    a: Lent,
-    given: Lent,
-    out: &mut Owned,
-) -> u32
-    ensures { IsNumbersGivenCall name_is.MinPlus AreDistancesGiven a.kept.now given.kept.now result out.old out.new }
-{
-    let answer = kept_numbers_given::<MinPlus>(alloc, borrowed(a), borrowed(given));
-    put_kept(alloc, out, answer)
+    let task = graph_task_of(task, source);
+    let answer = kept_graph(alloc, task, borrowed(a), sources, borrowed(values));
+    put_answer(alloc, out, count, answer)
 }
 
 /// Keeps the matrix of triples in any order. Values at one place are added up.
@@ -751,39 +684,6 @@ pub extern "C" fn cbgrid_kernel_kept_lists(alloc: Global, a: Lent, out: &mut Col
     ensures { IsCall IsMemory (HasLists (matrix_in a.kept.now)) result out.old out.new }
 {
     put(out, lists_of(alloc, borrowed(a)))
-}
-
-/// The parents in a breadth-first search from a source, in a graph that is kept over or-and: for each vertex that the source
-/// reaches, other than the source, the least vertex one level nearer that has an edge to it. One column over min-plus.
-#[unsafe(no_mangle)]
-pub extern "C" fn cbgrid_kernel_kept_parents(
-    alloc: Global,
-    a: Lent,
-    source: u32,
-    out: &mut Owned,
-) -> u32
-    ensures { IsKeptCall (search_faults name_is.OrAnd a.kept.now source) (IsKeptParents (matrix_in a.kept.now) source) result out.old out.new }
-{
-    let answer = kept_parents(alloc, borrowed(a), source);
-    put_kept(alloc, out, answer)
-}
-
-/// The components of a graph that is kept over or-and: for each vertex that has an entry in its row or its column, the least
-/// vertex of its component, where an entry joins two vertices in both directions. One column over min-plus.
-#[unsafe(no_mangle)]
-pub extern "C" fn cbgrid_kernel_kept_components(alloc: Global, a: Lent, out: &mut Owned) -> u32
-    ensures { IsKeptCall (square_faults a.kept.now) (IsKeptComponents (matrix_in a.kept.now)) result out.old out.new }
-{
-    let answer = kept_components(alloc, borrowed(a));
-    put_kept(alloc, out, answer)
-}
-
-/// The number of triangles of a graph that is kept over or-and, at most 2^64 - 1.
-#[unsafe(no_mangle)]
-pub extern "C" fn cbgrid_kernel_kept_triangles(alloc: Global, a: Lent, out: &mut u64) -> u32
-    ensures { IsCall (square_faults a.kept.now) (λ n. n ≡ stopped (triangle_count (matrix_in a.kept.now))) result out.old out.new }
-{
-    put(out, kept_triangles(alloc, borrowed(a)))
 }
 
 /// The shape of a kept matrix, its semiring and its number of entries.

@@ -1,1 +1,1 @@
-mod SourceLemmas
+mod AnswerLemmas

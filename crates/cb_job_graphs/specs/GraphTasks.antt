@@ -1,50 +1,112 @@
--- The answers of tasks on graphs, and the reasons why there is none.
-use Rattle.std.specs.Prelude.{ℕ, Bool, List, Option, Result}
-use Rattle.cb_semirings.specs.Tables.{min_plus, or_and}
-use Rattle.cb_searches.specs.Walks.{AreLevels, AreDistances}
-use Rattle.cb_searches.specs.SeveralSources.{AreLevelsFrom, AreDistancesFrom}
-use Rattle.cb_searches.specs.GivenNumbers.{AreLevelsGiven, AreDistancesGiven}
-use Rattle.cb_graphs.specs.Degrees.{row_degrees, column_degrees}
-use Rattle.cb_command_line.specs.declared.tasks.GraphTask.{GraphTask}
-use Rattle.cb_command_line.specs.declared.tasks.GraphTask.TheVariants.{Levels, Distances, LevelsFrom, DistancesFrom, LevelsGiven, DistancesGiven}
-use Rattle.cb_command_line.specs.declared.tasks.GraphTask.TheVariants.{Parents, Components, Triangles, TriangleCounts, RowDegrees, ColumnDegrees}
+-- The answers of tasks on the graph of a text, and the reasons why there is none.
+use Rattle.std.specs.Prelude.{ℕ, ◌≡◌, ◌≢◌, ◌⊎◌, Bool, List, [], ◌∷◌, Option, Result, IfOk, IfErr}
+use Rattle.cb_semirings.specs.Arithmetic.{Arithmetic}
+use Rattle.cb_semirings.specs.Names.{arithmetic_of}
+use Rattle.cb_semirings.specs.Tables.{min_plus, plus_times}
+use Rattle.cb_matrix.specs.Sparse.{Sparse, Extent}
+use Rattle.cb_market_lines.specs.Reads.{Reads}
+use Rattle.cb_market_pages.specs.Text.{number_line, text_of, vertex_text_of, vertex_pairs_text_of}
+use Rattle.cb_operations.specs.declared.graphs.Beside.{Beside}
+use Rattle.cb_operations.specs.declared.graphs.Beside.TheVariants.{Nothing, Sources, Values}
+use Rattle.cb_operations.specs.declared.graphs.GraphTask.{GraphTask}
+use Rattle.cb_operations.specs.declared.refusals.Refusal.{Refusal}
+use Rattle.cb_operations.specs.declared.refusals.Refusal.TheVariants.{Source}
+use Rattle.cb_operations.specs.declared.refusals.SelectionRefusal.TheVariants.{NotColumn}
+use Rattle.cb_operations.specs.Graphs.{HasColumn, IsRefusal, IsValuesRefusal, Suits, beside_of, semiring_of}
+use Rattle.cb_graphs.specs.declared.graph_tasks.GraphAnswer.{GraphAnswer}
+use Rattle.cb_graphs.specs.declared.graph_tasks.GraphAnswer.TheVariants.{Numbers, Columns, Vertices, Counts, Count}
+use Rattle.cb_graphs.specs.GraphAnswers.{OperandValue, NoOperand, SourceList, ValueColumn, IsAnswerOf}
+use Rattle.cb_job_ends.specs.Texts.{text_at}
 use Rattle.cb_job_ends.specs.WriteEnds.{IsEndOn}
+use Rattle.cb_job_ends.specs.declared.faults.JobFault.{JobFault}
+use Rattle.cb_job_ends.specs.declared.faults.JobFault.TheVariants.{Read, Refused, Unselected, Ranks, Memory, Output, Absent}
+use Rattle.cb_job_inputs.specs.Inputs.{AreWithList, IsFirstReadFault, arithmetic_at}
+use Rattle.cb_job_inputs.specs.Lists.{AreNumbersTo, IsList, numbers_in}
 use Rattle.cb_job_output.specs.declared.answers.Answer.{Answer}
 use Rattle.cb_job_output.specs.Answers.{IsAnsweredOn}
-use Rattle.cb_job_ends.specs.declared.faults.JobFault.{JobFault}
-use Rattle.cb_job_graphs.specs.ListedSources.{IsWalksAnswer, IsWalksFault}
-use Rattle.cb_job_graphs.specs.InitialValues.{IsGivenAnswer, IsGivenFault}
-use Rattle.cb_job_graphs.specs.GraphAnswers.{IsWalkAnswer, IsWalkFault, IsParentsAnswer, IsComponentsAnswer, IsSquareFault, IsTrianglesAnswer, IsTriangleCountsAnswer, IsDegreesAnswer, IsDegreesFault}
 
--- The answer of a task: of levels in or-and, of distances in min-plus.
+-- ---- what the texts of a task read as, where the graph is read over s
+-- a graph, and initial values, which are read in min-plus
+abbrev pub AreWithValues : Arithmetic → List (List ℕ) → Sparse → Sparse → Type 0
+AreWithValues s texts a x = Reads s (text_at texts 0) a × Reads min_plus (text_at texts 1) x
+
+-- a graph, and what is taken beside it: nothing; the sources of a list, counted from 0; or a column of initial values
+abbrev pub AreRead : Beside → Arithmetic → List (List ℕ) → Sparse → OperandValue → Type 0
+AreRead Nothing s texts a operand = Reads s (text_at texts 0) a × (operand ≡ NoOperand)
+AreRead Sources s texts a operand =
+    (l : Sparse) × AreWithList s texts a l × IsList a.shape.rows l × (operand ≡ SourceList (numbers_in l))
+AreRead Values s texts a operand =
+    (x : Sparse) × AreWithValues s texts a x × HasColumn a.shape x.shape × (operand ≡ ValueColumn x)
+
+-- the operands of a task
+abbrev pub AreOperands : Beside → Arithmetic → GraphTask → List (List ℕ) → Sparse → OperandValue → Type 0
+AreOperands beside s task texts a operand = Suits task a.shape × AreRead beside s texts a operand
+
+-- ---- why they aren't operands
+-- the graph is refused; else the list isn't a column; else a place of it has no number of a vertex
+abbrev pub IsListRefused : GraphTask → Extent → Sparse → JobFault → Type 0
+IsListRefused task d l (Refused refusal) =
+    IsRefusal task d refusal ⊎ (Suits task d × (refusal ≡ Source) × (l.shape.cols ≡ 1) × ¬ AreNumbersTo d.rows l)
+IsListRefused task d l (Unselected refusal) = Suits task d × (refusal ≡ NotColumn) × (l.shape.cols ≢ 1)
+IsListRefused task d l _ = ⊥
+
+-- the graph is refused; else the initial values are
+abbrev pub AreValuesRefused : GraphTask → Extent → Extent → Refusal → Type 0
+AreValuesRefused task d e refusal = IsRefusal task d refusal ⊎ (Suits task d × IsValuesRefusal d e refusal)
+
+-- the texts are matrices, and refused
+abbrev pub AreRefused : Beside → Arithmetic → GraphTask → List (List ℕ) → JobFault → Type 0
+AreRefused Nothing s task texts (Refused refusal) = (a : Sparse) × Reads s (text_at texts 0) a × IsRefusal task a.shape refusal
+AreRefused Sources s task texts fault = (a : Sparse) × (l : Sparse) × AreWithList s texts a l × IsListRefused task a.shape l fault
+AreRefused Values s task texts (Refused refusal) =
+    (a : Sparse) × (x : Sparse) × AreWithValues s texts a x × AreValuesRefused task a.shape x.shape refusal
+AreRefused _ s task texts fault = ⊥
+
+-- how the text at a position is read
+abbrev pub read_by : Beside → Arithmetic → ℕ → Arithmetic
+read_by Nothing s = λ _. s
+read_by Sources s = arithmetic_at s plus_times
+read_by Values s = arithmetic_at s min_plus
+
+-- Why a task has no answer, or why the answer wasn't written: a text isn't a matrix; else the operands are refused; else memory
+-- was refused, or the sink failed.
+abbrev pub IsFaultBy : Beside → Arithmetic → GraphTask → List (List ℕ) → JobFault → Type 0
+IsFaultBy beside s task texts (Read which fault) = IsFirstReadFault (read_by beside s) texts (Read which fault)
+IsFaultBy beside s task texts (Refused refusal) = AreRefused beside s task texts (Refused refusal)
+IsFaultBy beside s task texts (Unselected refusal) = AreRefused beside s task texts (Unselected refusal)
+IsFaultBy beside s task texts (Ranks fault) = ⊥
+IsFaultBy beside s task texts Absent = ⊥
+IsFaultBy beside s task texts Memory = (a : Sparse) × (operand : OperandValue) × AreOperands beside s task texts a operand
+IsFaultBy beside s task texts Output = (a : Sparse) × (operand : OperandValue) × AreOperands beside s task texts a operand
+
+-- ---- answers
+-- the answer for the operands that the texts read as
+abbrev pub IsAnswerBy : Beside → Arithmetic → GraphTask → List (List ℕ) → GraphAnswer → Type 0
+IsAnswerBy beside s task texts answer =
+    (a : Sparse) × (operand : OperandValue) × AreOperands beside s task texts a operand × IsAnswerOf task a operand answer
+
+-- How a call ends that reads the operands and computes the answer.
+pub record HasAnswer (beside : Beside) (s : Arithmetic) (task : GraphTask) (texts : List (List ℕ)) (result : Result GraphAnswer JobFault) : Type 0 where
+  pub answer : IfOk result (IsAnswerBy beside s task texts)
+  pub fault : IfErr result (IsFaultBy beside s task texts)
+  pub unwritten : IfErr result (λ f. f ≢ Output)
+
+-- the text of an answer: a line for each vertex, row or column that has a number, a vertex or a count; a matrix; or a number
+abbrev pub answer_text : GraphAnswer → List ℕ
+answer_text (Numbers column) = vertex_text_of column
+answer_text (Columns m) = text_of min_plus m
+answer_text (Vertices column) = vertex_pairs_text_of column
+answer_text (Counts column) = vertex_text_of column
+answer_text (Count n) = number_line (n ∷ [])
+
+-- the text of the answer of a task, over the semiring of its graph
 abbrev pub IsGraphAnswer : GraphTask → List (List ℕ) → List ℕ → Type 0
-IsGraphAnswer (Levels source) = IsWalkAnswer AreLevels or_and source
-IsGraphAnswer (Distances source) = IsWalkAnswer AreDistances min_plus source
-IsGraphAnswer LevelsFrom = IsWalksAnswer AreLevelsFrom or_and
-IsGraphAnswer DistancesFrom = IsWalksAnswer AreDistancesFrom min_plus
-IsGraphAnswer LevelsGiven = IsGivenAnswer AreLevelsGiven or_and
-IsGraphAnswer DistancesGiven = IsGivenAnswer AreDistancesGiven min_plus
-IsGraphAnswer (Parents source) = IsParentsAnswer source
-IsGraphAnswer Components = IsComponentsAnswer
-IsGraphAnswer Triangles = IsTrianglesAnswer
-IsGraphAnswer TriangleCounts = IsTriangleCountsAnswer
-IsGraphAnswer RowDegrees = IsDegreesAnswer (row_degrees or_and)
-IsGraphAnswer ColumnDegrees = IsDegreesAnswer (column_degrees or_and)
+IsGraphAnswer task texts text =
+    (answer : GraphAnswer) × IsAnswerBy (beside_of task) (arithmetic_of (semiring_of task)) task texts answer × (text ≡ answer_text answer)
 
 -- why it has no answer, or why the answer wasn't written
 abbrev pub IsGraphFault : GraphTask → List (List ℕ) → JobFault → Type 0
-IsGraphFault (Levels source) = IsWalkFault or_and source
-IsGraphFault (Distances source) = IsWalkFault min_plus source
-IsGraphFault LevelsFrom = IsWalksFault or_and
-IsGraphFault DistancesFrom = IsWalksFault min_plus
-IsGraphFault LevelsGiven = IsGivenFault or_and
-IsGraphFault DistancesGiven = IsGivenFault min_plus
-IsGraphFault (Parents source) = IsWalkFault or_and source
-IsGraphFault Components = IsSquareFault
-IsGraphFault Triangles = IsSquareFault
-IsGraphFault TriangleCounts = IsSquareFault
-IsGraphFault RowDegrees = IsDegreesFault
-IsGraphFault ColumnDegrees = IsDegreesFault
+IsGraphFault task = IsFaultBy (beside_of task) (arithmetic_of (semiring_of task)) task
 
 -- how a call ends that computes the answer of a task
 abbrev pub IsGraphAnswered : {S : Type 0} → GraphTask → List (List ℕ) → Result (Answer S) JobFault → Type 0

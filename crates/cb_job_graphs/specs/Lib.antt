@@ -1,4 +1,1 @@
-pub mod ListedSources
-pub mod InitialValues
-pub mod GraphAnswers
 pub mod GraphTasks

@@ -1,76 +1,116 @@
-//! Parents, components and triangles of the graph of a text, which one thread computes.
-ghost use Rattle.std.specs.Prelude.{◌≡◌, vec_len};
-ghost use Rattle.cb_semirings.specs.Tables.{min_plus, or_and};
-ghost use Rattle.cb_job_output.specs.Answers.{IsAnsweredOn};
-ghost use Rattle.cb_job_graphs.specs.GraphAnswers.{IsComponentsAnswer, IsParentsAnswer, IsSquareFault, IsTriangleCountsAnswer, IsTrianglesAnswer, IsWalkFault};
+//! The answer of a task on the graph of a text, over the semiring of the graph; and the text of any such answer.
+ghost use Rattle.std.specs.Prelude.{◌≡◌, vec_len, IfOk};
+ghost use Rattle.cb_semirings.specs.Tables.{min_plus};
+ghost use Rattle.cb_operations.specs.declared.graphs.Beside.TheVariants as beside_is;
+ghost use Rattle.cb_operations.specs.Graphs.{beside_of, operand_count_of};
+ghost use Rattle.cb_job_output.specs.Answers.{text_of_answer};
+ghost use Rattle.cb_job_graphs.specs.GraphTasks.{HasAnswer, answer_text};
 
-use crate::graph_inputs::{graph_with_source, square_graph};
-use cb_graphs::{components, triangles, triangles_of};
+use crate::graph_inputs::{graph_alone, graph_with_sources, graph_with_values};
+use cb_bases::Based;
+use cb_dcsc::Block;
+use cb_graphs::{GraphAnswer, GraphOperand, GraphSemiring};
 use cb_job_ends::faults::JobFault;
 use cb_job_ends::texts::Text;
 use cb_job_output::answers::Answer;
+use cb_layout::PanelledMatrix;
 use cb_market_pages::{vertex_pairs_text, vertex_text};
-use cb_searches::parents;
-use cb_semirings::{MinPlus, OrAnd};
-use std::alloc::Global;
+use cb_matrix::Matrix;
+use cb_operations::{Beside, GraphTask};
+use cb_semirings::MinPlus;
+use std::alloc::{AllocError, Global};
 use std::thread::Threads;
 
-/// Finds the least parent of each vertex in a breadth-first search from a source.
-pub fn parents_answer<R: Threads + Sync>(
+/// The answer of a task that takes nothing beside its graph.
+fn answer_alone<S: GraphSemiring + Based + Send + Sync, R: Threads + Sync>(
     rt: &R,
     alloc: Global,
     threads: u32,
-    source: u32,
+    task: GraphTask,
     texts: Vec<Text>,
-) -> Result<Answer<MinPlus>, JobFault>
-    requires { vec_len texts ≡ 1 }
-    ensures { IsAnsweredOn (IsParentsAnswer source) (IsWalkFault or_and source) min_plus texts.items result }
+) -> Result<GraphAnswer, JobFault>
+    requires over { S.is_of task }
+    requires beside { beside_of task ≡ beside_is.Nothing }
+    requires count { vec_len texts ≡ 1 }
+    ensures { HasAnswer beside_is.Nothing S.arithmetic task texts.items result }
 {
-    let graph = graph_with_source::<OrAnd, R>(rt, alloc, threads, source, texts)?;
-    let column = parents(alloc, &graph, source)?;
-    Ok(Answer::Lines(vertex_pairs_text(alloc, &column)?))
+    let graph = graph_alone::<S, R>(rt, alloc, threads, task, texts)?;
+    let answer = S::compute(alloc, task, &graph, &GraphOperand::Nothing)?;
+    Ok(answer)
 }
 
-/// Finds the least vertex of the connected component of each vertex.
-pub fn components_answer<R: Threads + Sync>(
+/// The answer of a task from listed sources.
+fn answer_from<S: GraphSemiring + Based + Send + Sync, R: Threads + Sync>(
     rt: &R,
     alloc: Global,
     threads: u32,
+    task: GraphTask,
     texts: Vec<Text>,
-) -> Result<Answer<MinPlus>, JobFault>
-    requires { vec_len texts ≡ 1 }
-    ensures { IsAnsweredOn IsComponentsAnswer IsSquareFault min_plus texts.items result }
+) -> Result<GraphAnswer, JobFault>
+    requires over { S.is_of task }
+    requires beside { beside_of task ≡ beside_is.Sources }
+    requires count { vec_len texts ≡ 2 }
+    ensures { HasAnswer beside_is.Sources S.arithmetic task texts.items result }
 {
-    let graph = square_graph(rt, alloc, threads, texts)?;
-    let column = components(alloc, &graph)?;
-    Ok(Answer::Lines(vertex_pairs_text(alloc, &column)?))
+    let (graph, sources) = graph_with_sources::<S, R>(rt, alloc, threads, task, texts)?;
+    let answer = S::compute(alloc, task, &graph, &GraphOperand::Sources(&sources))?;
+    Ok(answer)
 }
 
-/// Counts the triangles.
-pub fn triangles_answer<R: Threads + Sync>(
+/// The answer of a task from initial values.
+fn answer_given<S: GraphSemiring + Based + Send + Sync, R: Threads + Sync>(
     rt: &R,
     alloc: Global,
     threads: u32,
+    task: GraphTask,
     texts: Vec<Text>,
-) -> Result<Answer<MinPlus>, JobFault>
-    requires { vec_len texts ≡ 1 }
-    ensures { IsAnsweredOn IsTrianglesAnswer IsSquareFault min_plus texts.items result }
+) -> Result<GraphAnswer, JobFault>
+    requires over { S.is_of task }
+    requires beside { beside_of task ≡ beside_is.Values }
+    requires count { vec_len texts ≡ 2 }
+    ensures { HasAnswer beside_is.Values S.arithmetic task texts.items result }
 {
-    let graph = square_graph(rt, alloc, threads, texts)?;
-    Ok(Answer::Number(triangles(alloc, &graph)?))
+    let (graph, values) = graph_with_values::<S, R>(rt, alloc, threads, task, texts)?;
+    let answer = S::compute(alloc, task, &graph, &GraphOperand::Values(&values))?;
+    Ok(answer)
 }
 
-/// Counts the triangles that each vertex is part of.
-pub fn triangle_counts_answer<R: Threads + Sync>(
+/// Reads the texts of a task in order, and computes what it asks for. The blocks are dropped then.
+pub(crate) fn answer_over<S: GraphSemiring + Based + Send + Sync, R: Threads + Sync>(
     rt: &R,
     alloc: Global,
     threads: u32,
+    task: GraphTask,
     texts: Vec<Text>,
-) -> Result<Answer<MinPlus>, JobFault>
-    requires { vec_len texts ≡ 1 }
-    ensures { IsAnsweredOn IsTriangleCountsAnswer IsSquareFault min_plus texts.items result }
+) -> Result<GraphAnswer, JobFault>
+    requires over { S.is_of task }
+    requires count { vec_len texts ≡ operand_count_of task }
+    ensures { HasAnswer (beside_of task) S.arithmetic task texts.items result }
 {
-    let graph = square_graph(rt, alloc, threads, texts)?;
-    let column = triangles_of(alloc, &graph)?;
-    Ok(Answer::Lines(vertex_text(alloc, &column)?))
+    match task.beside() {
+        Beside::Nothing => answer_alone::<S, R>(rt, alloc, threads, task, texts),
+        Beside::Sources => answer_from::<S, R>(rt, alloc, threads, task, texts),
+        Beside::Values => answer_given::<S, R>(rt, alloc, threads, task, texts),
+    }
+}
+
+/// A matrix as a single panel. The list of its entries is dropped.
+fn panelled(alloc: Global, matrix: Matrix<MinPlus>) -> Result<PanelledMatrix<MinPlus>, AllocError>
+    ensures { IfOk result (λ m. m ≡ matrix) }
+{
+    let block = Block::from_ordered(alloc, matrix.shape(), matrix.entries())?;
+    Ok(PanelledMatrix::from_block(alloc, block))
+}
+
+/// An answer to be written: a matrix, a number, or a text with a line for each vertex, row or column.
+pub fn text_answer(alloc: Global, answer: GraphAnswer) -> Result<Answer<MinPlus>, AllocError>
+    ensures { IfOk result (λ written. text_of_answer min_plus written ≡ answer_text answer) }
+{
+    match answer {
+        GraphAnswer::Numbers(column) => Ok(Answer::Lines(vertex_text(alloc, &column)?)),
+        GraphAnswer::Columns(matrix) => Ok(Answer::Matrix(panelled(alloc, matrix)?)),
+        GraphAnswer::Vertices(column) => Ok(Answer::Lines(vertex_pairs_text(alloc, &column)?)),
+        GraphAnswer::Counts(column) => Ok(Answer::Lines(vertex_text(alloc, &column)?)),
+        GraphAnswer::Count(count) => Ok(Answer::Number(count)),
+    }
 }

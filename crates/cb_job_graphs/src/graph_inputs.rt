@@ -1,52 +1,88 @@
-//! Reads the graph of a text into one block, for searches and counts by one thread. Several threads read a large text.
-ghost use Rattle.std.specs.Prelude.{◌≡◌, ◌≢◌, vec_len, IfOk, IfErr};
-ghost use Rattle.cb_job_graphs.specs.GraphAnswers.{IsSquareFault, IsSquareGraph, IsWalkFault, IsWalkGraph};
+//! Reads the operands of a task on a graph into blocks. Several threads read a large text.
+ghost use Rattle.std.specs.Prelude.{◌≡◌, ◌≢◌, ◌≤◌, length, vec_len, IfOk, IfErr};
+ghost use Rattle.cb_matrix.specs.declared.TheConstants.{LIMIT};
+ghost use Rattle.cb_operations.specs.declared.graphs.Beside.TheVariants as beside_is;
+ghost use Rattle.cb_operations.specs.Graphs.{AreVertices, HasColumn, Suits};
+ghost use Rattle.cb_graphs.specs.GraphAnswers.{NoOperand, SourceList, ValueColumn};
+ghost use Rattle.cb_job_graphs.specs.GraphTasks.{AreOperands, IsFaultBy};
 
 use cb_bases::Based;
 use cb_dcsc::Block;
 use cb_job_ends::faults::JobFault;
 use cb_job_ends::texts::Text;
-use cb_job_inputs::inputs::read_one;
+use cb_job_inputs::inputs::{read_one, read_pair};
+use cb_job_inputs::lists::{is_full, listed};
 use cb_layout::Grid;
-use cb_operations::{Refusal, check_graph};
-use cb_semirings::OrAnd;
+use cb_operations::{GraphTask, Refusal, SelectionRefusal, check_values};
+use cb_semirings::{MinPlus, PlusTimes};
 use std::alloc::Global;
 use std::thread::Threads;
 
-/// Reads the graph of a text. The source must be a vertex of it.
-pub fn graph_with_source<S: Based + Send + Sync, R: Threads + Sync>(
+/// Reads the graph of a task.
+pub fn graph_alone<S: Based + Send + Sync, R: Threads + Sync>(
     rt: &R,
     alloc: Global,
     threads: u32,
-    source: u32,
+    task: GraphTask,
     texts: Vec<Text>,
 ) -> Result<Block<S>, JobFault>
     requires { vec_len texts ≡ 1 }
-    ensures ok { IfOk result (IsWalkGraph S.arithmetic source texts.items) }
-    ensures fault { IfErr result (IsWalkFault S.arithmetic source texts.items) }
+    ensures ok { IfOk result (λ graph. AreOperands beside_is.Nothing S.arithmetic task texts.items graph NoOperand) }
+    ensures fault { IfErr result (IsFaultBy beside_is.Nothing S.arithmetic task texts.items) }
     ensures unwritten { IfErr result (λ f. f ≢ JobFault.Output) }
 {
     let graph = read_one::<S, R>(rt, alloc, &Grid::single(), threads, texts)?;
-    check_graph(graph.shape(), source)?;
+    task.check(graph.shape())?;
     Ok(graph.into_block())
 }
 
-/// Reads the graph of a text. The matrix must be square.
-pub fn square_graph<R: Threads + Sync>(
+/// Reads the graph of a task, and a list of its vertices.
+pub fn graph_with_sources<S: Based + Send + Sync, R: Threads + Sync>(
     rt: &R,
     alloc: Global,
     threads: u32,
+    task: GraphTask,
     texts: Vec<Text>,
-) -> Result<Block<OrAnd>, JobFault>
-    requires { vec_len texts ≡ 1 }
-    ensures ok { IfOk result (IsSquareGraph texts.items) }
-    ensures fault { IfErr result (IsSquareFault texts.items) }
+) -> Result<(Block<S>, Vec<u32>), JobFault>
+    requires { vec_len texts ≡ 2 }
+    ensures ok { IfOk result (λ p. AreOperands beside_is.Sources S.arithmetic task texts.items p.0 (SourceList p.1.items)) }
+    ensures suits { IfOk result (λ p. Suits task p.0.shape) }
+    ensures vertices { IfOk result (λ p. AreVertices p.0.shape p.1.items) }
+    ensures count { IfOk result (λ p. length p.1.items ≤ LIMIT) }
+    ensures fault { IfErr result (IsFaultBy beside_is.Sources S.arithmetic task texts.items) }
     ensures unwritten { IfErr result (λ f. f ≢ JobFault.Output) }
 {
-    let graph = read_one::<OrAnd, R>(rt, alloc, &Grid::single(), threads, texts)?;
+    let (graph, list) = read_pair::<S, PlusTimes, R>(rt, alloc, threads, texts)?;
     let shape = graph.shape();
-    if shape.rows() != shape.cols() {
-        return Err(JobFault::from(Refusal::NotSquare));
+    task.check(shape)?;
+    if list.shape().cols() != 1 {
+        return Err(JobFault::Unselected(SelectionRefusal::NotColumn));
     }
-    Ok(graph.into_block())
+    if !is_full(&list, shape.rows()) {
+        return Err(JobFault::Refused(Refusal::Source));
+    }
+    let sources = listed(alloc, &list, shape.rows())?;
+    Ok((graph, sources))
+}
+
+/// Reads the graph of a task, and the initial values of its vertices.
+pub fn graph_with_values<S: Based + Send + Sync, R: Threads + Sync>(
+    rt: &R,
+    alloc: Global,
+    threads: u32,
+    task: GraphTask,
+    texts: Vec<Text>,
+) -> Result<(Block<S>, Block<MinPlus>), JobFault>
+    requires { vec_len texts ≡ 2 }
+    ensures ok { IfOk result (λ p. AreOperands beside_is.Values S.arithmetic task texts.items p.0 (ValueColumn p.1)) }
+    ensures suits { IfOk result (λ p. Suits task p.0.shape) }
+    ensures column { IfOk result (λ p. HasColumn p.0.shape p.1.shape) }
+    ensures fault { IfErr result (IsFaultBy beside_is.Values S.arithmetic task texts.items) }
+    ensures unwritten { IfErr result (λ f. f ≢ JobFault.Output) }
+{
+    let (graph, values) = read_pair::<S, MinPlus, R>(rt, alloc, threads, texts)?;
+    let shape = graph.shape();
+    task.check(shape)?;
+    check_values(shape, values.shape())?;
+    Ok((graph, values))
 }

@@ -5,10 +5,6 @@
 //! the answer.
 #![tactic(auto)]
 
-mod degree_answers;
-mod graph_answers;
+pub mod graph_answers;
 mod graph_inputs;
 pub mod graph_tasks;
-mod initial_values;
-mod listed_sources;
-mod walks;

@@ -1,6 +1,6 @@
 //! The texts of a job's files, read into blocks.
 //!
-//! - `reading` reads a text, or two, by several threads, and `inputs` the texts of a job.
+//! - `reading` reads a text, or two, by several threads, `inputs` the texts of a job, and `operands` those of a task without ranks.
 //! - `pieces` cuts a text where lines end; `places` reads the pieces, and `joining` joins them.
 //! - `lists` reads the numbers that a column lists.
 #![tactic(auto)]
@@ -8,6 +8,7 @@
 pub mod inputs;
 mod joining;
 pub mod lists;
+pub mod operands;
 mod pieces;
 mod places;
 pub mod reading;

@@ -88,7 +88,8 @@ fn part_of<S: Semiring>(
     check_lists(block, rows, columns)?;
     let some_rows = listed(alloc, rows, shape.rows())?;
     let some_columns = listed(alloc, columns, shape.cols())?;
-    let part = extract(alloc, block, &some_rows, &some_columns)?;
+    let numbers = (Some(some_rows.as_slice()), Some(some_columns.as_slice()));
+    let part = extract(alloc, block, numbers.0, numbers.1)?;
     Ok(PanelledMatrix::from_block(alloc, part))
 }
 

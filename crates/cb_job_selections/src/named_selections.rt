@@ -17,7 +17,7 @@ use std::alloc::Global;
 use std::thread::Threads;
 
 /// Reads the texts of a selection over a semiring, and makes it from their matrices: the answer whose text is its own. At most
-/// `threads` threads read; the caller's thread does everything else.
+/// `threads` threads read, and make selections by columns ([`cb_panels::select`]); the caller's thread makes all others.
 ///
 /// The first fault in this order is returned: a text that isn't a matrix; a selection that can't be made; want of memory. Each
 /// text is dropped once it is read, so that its memory is free for the computation.

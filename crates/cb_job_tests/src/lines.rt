@@ -1,15 +1,15 @@
 //! Command lines, and the lines of faults.
 use cb_command_line::EngineName::{Plain, Ranks, Traced};
 use cb_command_line::SelectionTask::{Extract, Selected};
-use cb_command_line::{
-    EngineName, GraphTask, Job, Lists, SelectionTask, Task, UsageFault, read_job,
-};
+use cb_command_line::{EngineName, Job, Lists, SelectionTask, Task, UsageFault, read_job};
 use cb_job_ends::faults::JobFault;
 use cb_job_runs::fault_lines::fault_line;
 use cb_job_runs::statuses::status;
 use cb_market::{Kind, ReadFault};
 use cb_matrix::Test;
-use cb_operations::{Diagonal, Function, Operation, Refusal, Region, Selection, SelectionRefusal};
+use cb_operations::{
+    Diagonal, Function, GraphTask, Operation, Refusal, Region, Selection, SelectionRefusal,
+};
 use cb_rank_faults::RanksFault;
 use cb_semirings::SemiringName;
 use cb_semirings::SemiringName::{MaxMin, MaxPlus, MinPlus, OrAnd, PlusTimes};

@@ -18,12 +18,11 @@ use Rattle.cb_rank_operations.specs.Searched.{IsWalkLoss, IsWalkRefusal}
 use Rattle.cb_command_line.specs.declared.jobs.Job.{Job}
 use Rattle.cb_command_line.specs.declared.tasks.Task.{Task}
 use Rattle.cb_command_line.specs.declared.tasks.Task.TheVariants as task_is
-use Rattle.cb_command_line.specs.declared.tasks.GraphTask.{GraphTask}
-use Rattle.cb_command_line.specs.declared.tasks.GraphTask.TheVariants.{Levels, Distances}
+use Rattle.cb_operations.specs.declared.graphs.GraphTask.{GraphTask}
+use Rattle.cb_operations.specs.declared.graphs.GraphTask.TheVariants.{Levels, Distances}
 use Rattle.cb_job_inputs.specs.Inputs.{AreMatrices}
 use Rattle.cb_job_operations.specs.OperationTexts.{IsAnswerOver, IsFaultOver}
 use Rattle.cb_job_selections.specs.SelectionTexts.{IsSelectionAnswer, IsSelectionFault}
-use Rattle.cb_job_graphs.specs.GraphAnswers.{IsWalkFault}
 use Rattle.cb_job_graphs.specs.GraphTasks.{IsGraphAnswer, IsGraphFault}
 use Rattle.cb_job_ends.specs.Texts.{text_at}
 use Rattle.cb_job_ends.specs.declared.faults.JobFault.{JobFault}
@@ -67,8 +66,8 @@ IsWalkFailure s source engine side texts fault =
     × IsWalkLoss engine side a source (Failed said) × (fault ≡ fault_of_operation (Failed said)))
 
 -- why there are no levels or distances: as without ranks; or the source is a vertex of the graph, and the ranks failed
-abbrev pub IsRanksWalkFault : Arithmetic → ℕ → Engine → ℕ → List (List ℕ) → JobFault → Type 0
-IsRanksWalkFault s source engine side texts fault = IsWalkFault s source texts fault ⊎ IsWalkFailure s source engine side texts fault
+abbrev pub IsRanksWalkFault : GraphTask → Arithmetic → ℕ → Engine → ℕ → List (List ℕ) → JobFault → Type 0
+IsRanksWalkFault task s source engine side texts fault = IsGraphFault task texts fault ⊎ IsWalkFailure s source engine side texts fault
 
 -- the answer of an operation over a semiring, by an engine or without one
 abbrev pub IsOperationAnswer : Option Engine → ℕ → Operation → Arithmetic → List (List ℕ) → List ℕ → Type 0
@@ -82,8 +81,8 @@ IsOperationFault (Some engine) side operation s = IsRanksFaultOver operation s e
 
 -- why a task on a graph has no answer, or why the answer wasn't written
 abbrev pub IsGraphFaultBy : Option Engine → ℕ → GraphTask → List (List ℕ) → JobFault → Type 0
-IsGraphFaultBy (Some engine) side (Levels source) = IsRanksWalkFault or_and source engine side
-IsGraphFaultBy (Some engine) side (Distances source) = IsRanksWalkFault min_plus source engine side
+IsGraphFaultBy (Some engine) side (Levels source) = IsRanksWalkFault (Levels source) or_and source engine side
+IsGraphFaultBy (Some engine) side (Distances source) = IsRanksWalkFault (Distances source) min_plus source engine side
 IsGraphFaultBy _ side task = IsGraphFault task
 
 -- The answer of a task: by an engine on a grid of this side or, without one, by threads that share whole blocks. Only an

@@ -4,7 +4,7 @@ use Rattle.cb_semirings.specs.Arithmetic.{Arithmetic}
 use Rattle.cb_semirings.specs.Tables.{min_plus}
 use Rattle.cb_operations.specs.declared.operations.Operation.{Operation}
 use Rattle.cb_command_line.specs.declared.jobs.Job.{Job}
-use Rattle.cb_command_line.specs.declared.tasks.GraphTask.{GraphTask}
+use Rattle.cb_operations.specs.declared.graphs.GraphTask.{GraphTask}
 use Rattle.cb_job_ends.specs.WriteEnds.{IsEndOn}
 use Rattle.cb_job_ends.specs.declared.faults.JobFault.{JobFault}
 use Rattle.cb_job_graphs.specs.GraphTasks.{IsGraphAnswer}

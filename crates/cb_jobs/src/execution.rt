@@ -1,18 +1,19 @@
 //! Does a job on the texts of its files.
 ghost use Rattle.std.specs.Prelude.{◌≡◌, vec_len, false};
-ghost use Rattle.cb_command_line.specs.Jobs.{graph_file_count_of};
+ghost use Rattle.cb_operations.specs.Graphs.{operand_count_of};
 ghost use Rattle.cb_jobs.specs.JobEnds.{IsGraphAnsweredBy, IsJobEnd, IsSearchAnswered, IsSearchEnd};
 
 use crate::job_operations::execute_operation;
 use crate::job_selections::execute_selection;
 use crate::ranks::{Ranks, ranks_of};
 use crate::searches_by_ranks::{distances_answer, levels_answer};
-use cb_command_line::{GraphTask, Job, Task};
+use cb_command_line::{Job, Task};
 use cb_job_ends::faults::JobFault;
 use cb_job_ends::sinks::Sink;
 use cb_job_ends::texts::Text;
 use cb_job_graphs::graph_tasks::graph_answer;
 use cb_job_output::answers::{Answer, put_answer};
+use cb_operations::GraphTask;
 use cb_semirings::MinPlus;
 use std::alloc::Global;
 use std::sync::Wait;
@@ -27,7 +28,7 @@ fn ranks_graph_answer<R: Threads + Wait + Sync>(
     task: GraphTask,
     texts: Vec<Text>,
 ) -> Result<Answer<MinPlus>, JobFault>
-    requires { vec_len texts ≡ graph_file_count_of task }
+    requires { vec_len texts ≡ operand_count_of task }
     ensures { IsGraphAnsweredBy ranks.now task texts.items result }
 {
     match task {
@@ -45,7 +46,7 @@ fn graph_answer_by<R: Threads + Wait + Sync>(
     task: GraphTask,
     texts: Vec<Text>,
 ) -> Result<Answer<MinPlus>, JobFault>
-    requires { vec_len texts ≡ graph_file_count_of task }
+    requires { vec_len texts ≡ operand_count_of task }
     ensures { IsSearchAnswered job.now task texts.items result }
 {
     match ranks_of(job) {
@@ -63,7 +64,7 @@ fn put_graph<R: Threads + Wait + Sync, K: Sink>(
     texts: Vec<Text>,
     out: &mut K,
 ) -> Result<(), JobFault>
-    requires texts { vec_len texts ≡ graph_file_count_of task }
+    requires texts { vec_len texts ≡ operand_count_of task }
     requires works { K.has_failed out.old ≡ false }
     ensures { IsSearchEnd job.now task texts.items (K.written out.old) (K.written out.new) (K.has_failed out.new) result }
 {

@@ -1,14 +1,15 @@
 //! Levels and distances of the vertices of a graph from a source, by ranks.
 ghost use Rattle.std.specs.Prelude.{◌≡◌, vec_len};
-ghost use Rattle.cb_command_line.specs.declared.tasks.GraphTask.TheVariants as task_is;
+ghost use Rattle.cb_operations.specs.declared.graphs.GraphTask.TheVariants as task_is;
 ghost use Rattle.cb_jobs.specs.JobEnds.{IsGraphAnsweredBy};
 
 use crate::ranks::{Ranks, job_fault};
+use cb_graphs::GraphAnswer;
 use cb_job_ends::faults::JobFault;
 use cb_job_ends::texts::Text;
+use cb_job_graphs::graph_answers::text_answer;
 use cb_job_inputs::inputs::read_one;
 use cb_job_output::answers::Answer;
-use cb_market_pages::vertex_text;
 use cb_rank_operations::{distances, levels};
 use cb_semirings::{MinPlus, OrAnd};
 use std::alloc::Global;
@@ -28,7 +29,7 @@ pub fn levels_answer<R: Threads + Wait + Sync>(
 {
     let graph = read_one::<OrAnd, R>(rt, alloc, &ranks.grid, ranks.threads, texts)?;
     match levels(rt, alloc, ranks.engine, graph, source) {
-        Ok(column) => Ok(Answer::Lines(vertex_text(alloc, &column)?)),
+        Ok(column) => Ok(text_answer(alloc, GraphAnswer::Numbers(column))?),
         Err(fault) => Err(job_fault(fault)),
     }
 }
@@ -46,7 +47,7 @@ pub fn distances_answer<R: Threads + Wait + Sync>(
 {
     let graph = read_one::<MinPlus, R>(rt, alloc, &ranks.grid, ranks.threads, texts)?;
     match distances(rt, alloc, ranks.engine, graph, source) {
-        Ok(column) => Ok(Answer::Lines(vertex_text(alloc, &column)?)),
+        Ok(column) => Ok(text_answer(alloc, GraphAnswer::Numbers(column))?),
         Err(fault) => Err(job_fault(fault)),
     }
 }

@@ -1,8 +1,9 @@
 -- Selections from kept matrices: by numbers, their faults and their results; and rows and columns by their numbers.
-use Rattle.std.specs.Prelude.{◌≡◌, ℕ, ◌<◌, ◌≤◌, ◌==◌, cond, List, length, map, All, Option, Some, None}
+use Rattle.std.specs.Prelude.{◌≡◌, ℕ, ◌<◌, ◌≤◌, ◌==◌, cond, List, length, map, All, Option, Some, None, Result}
 use Rattle.std.specs.Int.NonZero.{non_zero_u32_get}
 use Rattle.cb_semirings.specs.Arithmetic.{Arithmetic}
 use Rattle.cb_semirings.specs.Names.{arithmetic_of}
+use Rattle.cb_semirings.specs.declared.names.SemiringName.{SemiringName}
 use Rattle.cb_matrix.specs.declared.TheConstants.{LIMIT}
 use Rattle.cb_matrix.specs.Sparse.{Sparse, Extent}
 use Rattle.cb_operations.specs.declared.regions.Diagonal.{Diagonal}
@@ -12,11 +13,12 @@ use Rattle.cb_operations.specs.declared.selections.Selection.{Selection}
 use Rattle.cb_operations.specs.declared.selections.Selection.TheVariants.{Select, Apply, Power}
 use Rattle.cb_operations.specs.OperationAnswers.{shapes_in}
 use Rattle.cb_operations.specs.SelectionAnswers.{Suits, answer_of, refusal_of}
-use Rattle.cb_selections.specs.Extracted.{extracted}
+use Rattle.cb_selections.specs.Extracted.{AreBelow, AreFew, extracted_by}
 use Rattle.cb_shares.specs.Shares.{panel}
 use Rattle.cb_kept.specs.declared.faults.Fault.{Fault}
 use Rattle.cb_kept.specs.declared.faults.Fault.TheVariants.{Test, TooLarge, Place, Mixed}
 use Rattle.cb_kept.specs.declared.kept.Kept.{Kept}
+use Rattle.cb_kept.specs.Answers.{IsAnswer}
 use Rattle.cb_kept.specs.Kept.{AreOver, Keeps, semiring_in, semiring_of, matrix_in}
 use Rattle.cb_kept.specs.Refusals.{Unless, IsMemory, refused_as}
 
@@ -75,10 +77,18 @@ IsKeptMade f k made = Keeps (semiring_of k) (f (arithmetic_of (semiring_of k)) (
 
 -- ---- rows and columns by their numbers
 -- the faults: more numbers than a matrix can have rows or columns, or one that the matrix doesn't have
-unfoldable pub number_faults : List ℕ → List ℕ → Extent → Fault → Type 0
+unfoldable pub number_faults : Option (List ℕ) → Option (List ℕ) → Extent → Fault → Type 0
 number_faults rows cols shape =
-    Unless ((length rows ≤ LIMIT) × (length cols ≤ LIMIT)) TooLarge
-    (Unless (All (λ i. i < shape.rows) rows × All (λ j. j < shape.cols) cols) Place IsMemory)
+    Unless (AreFew rows × AreFew cols) TooLarge
+    (Unless (AreBelow shape.rows rows × AreBelow shape.cols cols) Place IsMemory)
 
-abbrev pub IsKeptExtract : List ℕ → List ℕ → Kept → Kept → Type 0
-IsKeptExtract rows cols k made = IsKeptMade (λ s. extracted s rows cols) k made
+abbrev pub IsKeptExtract : Option (List ℕ) → Option (List ℕ) → Kept → Kept → Type 0
+IsKeptExtract rows cols k made = IsKeptMade (λ s. extracted_by s rows cols) k made
+
+-- those of a matrix, kept over a semiring, or a fault
+abbrev pub IsExtractOf : SemiringName → Arithmetic → Option (List ℕ) → Option (List ℕ) → Sparse → Result Kept Fault → Type 0
+IsExtractOf name s rows cols m = IsAnswer (number_faults rows cols m.shape) (Keeps name (extracted_by s rows cols m))
+
+-- those of a kept matrix, or a fault
+abbrev pub IsExtractAnswer : Option (List ℕ) → Option (List ℕ) → Kept → Result Kept Fault → Type 0
+IsExtractAnswer rows cols k = IsAnswer (number_faults rows cols (matrix_in k).shape) (IsKeptExtract rows cols k)

@@ -1,9 +1,8 @@
 -- Refusals: the faults of calls. Answers: what a call returns.
 -- Kept: kept matrices. KeptAnswers: what an operation on them returns.
--- Triples: matrices of triples. KeptTexts: texts of kept matrices. KeptGraphs: searches, parents, components and triangles
--- of kept graphs. KeptSelections: selections from kept matrices. KeptProducts: products outside a mask. KeptTurned: products
--- of transposes. KeptPanels: products in panels. KeptUpdates: one updated by another, under a mask. KeptDegrees: how
--- many entries rows and columns have. Misfits: what a fault of lists or triples is about.
+-- Triples: matrices of triples. KeptTexts: texts of kept matrices. KeptGraphs: tasks on kept graphs. KeptSelections:
+-- selections from kept matrices. KeptProducts: products outside a mask. KeptTurned: products of transposes. KeptPanels:
+-- products in panels. KeptUpdates: one updated by another, under a mask. Misfits: what a fault of lists or triples is about.
 pub mod Refusals
 pub mod Answers
 pub mod Kept
@@ -14,7 +13,6 @@ pub mod KeptGraphs
 pub mod KeptSelections
 pub mod KeptTurned
 pub mod KeptUpdates
-pub mod KeptDegrees
 pub mod KeptProducts
 pub mod KeptPanels
 pub mod KeptShares

@@ -6,6 +6,8 @@ use Rattle.cb_semirings.specs.Names.{arithmetic_of}
 use Rattle.cb_market_lines.specs.declared.ReadFault.{ReadFault}
 use Rattle.cb_market_lines.specs.Faults.{first_fault}
 use Rattle.cb_lists.specs.declared.lists.Columns.{Columns}
+use Rattle.cb_operations.specs.declared.refusals.Refusal.{Refusal}
+use Rattle.cb_operations.specs.declared.refusals.Refusal.TheVariants as graph_refusal_is
 use Rattle.cb_operations.specs.declared.refusals.SelectionRefusal.{SelectionRefusal}
 use Rattle.cb_operations.specs.declared.refusals.SelectionRefusal.TheVariants as refusal_is
 use Rattle.cb_selections.specs.declared.selections.SelectionFault.{SelectionFault}
@@ -42,6 +44,12 @@ refused_as refusal_is.TooLarge = TooLarge
 refused_as refusal_is.Place = Place
 refused_as refusal_is.NoRow = Place
 refused_as refusal_is.NoColumn = Place
+
+-- the fault of a graph that is refused, or of what a task takes beside it
+abbrev pub graph_refused_as : Refusal → Fault
+graph_refused_as graph_refusal_is.Shapes = Shapes
+graph_refused_as graph_refusal_is.NotSquare = NotSquare
+graph_refused_as graph_refusal_is.Source = Source
 
 -- the fault of a selection that isn't made
 abbrev pub selection_fault_of : SelectionFault → Fault

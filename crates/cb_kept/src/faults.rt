@@ -2,7 +2,7 @@
 ghost use Rattle.std.specs.Prelude.{◌≡◌, ◌≢◌};
 ghost use Rattle.cb_kept.specs.Refusals.{code_of, refused_as, selection_fault_of};
 
-use cb_operations::SelectionRefusal;
+use cb_operations::{Refusal, SelectionRefusal};
 use cb_selections::SelectionFault;
 use std::alloc::AllocError;
 
@@ -11,7 +11,7 @@ use std::alloc::AllocError;
 pub enum Fault {
     /// No semiring has the number.
     Semiring,
-    /// No test, region, function, update or power has the number.
+    /// No test, region, function, update, power or task on a graph has the number.
     Test,
     /// Kept matrices are over different semirings, or a graph isn't over the semiring of the call.
     Mixed,
@@ -48,6 +48,20 @@ impl From<AllocError> for Fault {
 
     fn from(_error: AllocError) -> Fault {
         Fault::Memory
+    }
+}
+
+impl From<Refusal> for Fault {
+    ghost use Rattle.cb_kept.specs.Refusals.{graph_refused_as};
+
+    ghost from_gives = { λ refusal fault. fault ≡ graph_refused_as refusal };
+
+    fn from(refusal: Refusal) -> Fault {
+        match refusal {
+            Refusal::Shapes => Fault::Shapes,
+            Refusal::NotSquare => Fault::NotSquare,
+            Refusal::Source => Fault::Source,
+        }
     }
 }
 

@@ -1,18 +1,14 @@
-//! The checks of calls on kept matrices. Each matrix is well formed: operands only have to agree with one another, and a graph
-//! has to be square and over the semiring of the call.
+//! The checks of operations on kept matrices. Each matrix is well formed: operands only have to agree with one another.
 ghost use Rattle.std.specs.Prelude.{◌≡◌, ◌↔◌, ◌<◌, IsTrue, length, map, All, Some, IfSome, IfNone, IfOk, IfErr};
 ghost use Rattle.cb_operations.specs.OperationAnswers.{operand_count_of, Agree, shapes_in};
 ghost use Rattle.std.specs.Borrow.{Bor};
 ghost use Rattle.cb_kept.specs.declared.kept.Kept.{Kept as KeptValue};
 ghost use Rattle.cb_operations.specs.Operands.{lent_in};
-ghost use Rattle.cb_kept.specs.Kept.{AreOver, Keeps, semiring_of, semiring_in, matrix_in};
+ghost use Rattle.cb_kept.specs.Kept.{AreOver, semiring_of, semiring_in, matrix_in};
 ghost use Rattle.cb_kept.specs.KeptAnswers.{kept_faults};
-ghost use Rattle.cb_kept.specs.KeptGraphs.{kept_graph_faults};
 
 use crate::faults::Fault;
-use crate::keeping::Keep;
 use crate::kept::Kept;
-use cb_layout::PanelledMatrix;
 use cb_matrix::Shape;
 use cb_operations::Operation;
 use cb_semirings::SemiringName;
@@ -83,21 +79,4 @@ pub(crate) fn common_semiring(
         return Err(Fault::Shapes);
     };
     Ok(semiring)
-}
-
-/// The panels of a square graph over a semiring, or else the first fault.
-#[tactic(auto, using(crate::proofs::KeptGraphFaults::other_semiring, crate::proofs::KeptGraphFaults::other_sides))]
-pub(crate) fn square_in<S: Keep>(kept: &Kept) -> Result<&PanelledMatrix<S>, Fault>
-    ensures graph { IfOk result (λ graph. Keeps S.name graph.now kept.now) }
-    ensures square { IfOk result (λ graph. graph.now.shape.rows ≡ graph.now.shape.cols) }
-    ensures fault { IfErr result (kept_graph_faults S.name kept.now (λ _ _. ⊥)) }
-{
-    let Some(graph) = S::panels_of(kept) else {
-        return Err(Fault::Mixed);
-    };
-    let shape = graph.shape();
-    if shape.rows() != shape.cols() {
-        return Err(Fault::NotSquare);
-    }
-    Ok(graph)
 }

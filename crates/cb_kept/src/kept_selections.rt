@@ -1,15 +1,15 @@
 //! Selections from kept matrices, whose result is kept; rows and columns by their numbers; and the sum of all values.
-ghost use Rattle.std.specs.Prelude.{◌≡◌, ◌↔◌, [], ◌∷◌, ◌<◌, ◌≤◌, length, map, All, IsTrue, Some, IfSome, IfOk, IfErr};
+ghost use Rattle.std.specs.Prelude.{◌≡◌, ◌↔◌, [], ◌∷◌, length, map, IsTrue, Some, IfSome, option_copied, IfOk, IfErr};
 ghost use Rattle.cb_semirings.specs.Names.{arithmetic_of};
 ghost use Rattle.cb_reshape.specs.Sums.{matrix_total};
 ghost use Rattle.cb_operations.specs.Operands.{lent_in};
 ghost use Rattle.cb_operations.specs.OperationAnswers.{shapes_in};
 ghost use Rattle.cb_operations.specs.SelectionAnswers.{answer_of, operand_count_of, Suits};
-ghost use Rattle.cb_selections.specs.Extracted.{extracted};
+ghost use Rattle.cb_selections.specs.Extracted.{AreBelow, AreFew};
 ghost use Rattle.cb_selections.specs.SelectionFaults.{IsFaultOf};
 ghost use Rattle.cb_kept.specs.Answers.{IsAnswer, NoFault};
 ghost use Rattle.cb_kept.specs.Kept.{AreOver, Keeps, semiring_of, matrix_in};
-ghost use Rattle.cb_kept.specs.KeptSelections.{selection_faults, HasSelected, number_faults, IsKeptExtract};
+ghost use Rattle.cb_kept.specs.KeptSelections.{selection_faults, HasSelected, number_faults, IsExtractAnswer, IsExtractOf};
 
 use crate::faults::Fault;
 use crate::keeping::{Keep, keep_block};
@@ -172,34 +172,39 @@ pub fn kept_selection(
     }
 }
 
-/// Whether two lists have no more numbers than a matrix can have rows and columns.
-fn are_few(rows: &[u32], cols: &[u32]) -> bool
-    ensures { IsTrue result ↔ (length rows.now ≤ LIMIT) × (length cols.now ≤ LIMIT) }
+/// Whether a list, if there is one, has no more numbers than a matrix can have rows or columns.
+fn are_few(numbers: Option<&[u32]>) -> bool
+    ensures { IsTrue result ↔ AreFew (option_copied numbers.entry) }
 {
-    rows.len() <= LIMIT as usize && cols.len() <= LIMIT as usize
+    match numbers {
+        Some(numbers) => numbers.len() <= LIMIT as usize,
+        None => true,
+    }
 }
 
-/// Whether a shape has each row and each column of two lists.
-fn has_numbers(shape: Shape, rows: &[u32], cols: &[u32]) -> bool
-    ensures { IsTrue result ↔ (All (λ i. i < shape.rows) rows.now × All (λ j. j < shape.cols) cols.now) }
+/// Whether a list, if there is one, has only numbers below a bound.
+fn are_below(numbers: Option<&[u32]>, bound: u32) -> bool
+    ensures { IsTrue result ↔ AreBelow bound (option_copied numbers.entry) }
 {
-    let (height, width) = (shape.rows(), shape.cols());
-    rows.iter().all(|row| *row < height) && cols.iter().all(|column| *column < width)
+    match numbers {
+        Some(numbers) => numbers.iter().all(|number| *number < bound),
+        None => true,
+    }
 }
 
 /// Refuses more rows or columns than a matrix can have, and a row or column that the shape doesn't have.
-fn check_numbers(shape: Shape, rows: &[u32], cols: &[u32]) -> Result<(), Fault>
-    ensures row_limit { IfOk result (λ _. length rows.now ≤ LIMIT) }
-    ensures column_limit { IfOk result (λ _. length cols.now ≤ LIMIT) }
-    ensures rows { IfOk result (λ _. All (λ i. i < shape.rows) rows.now) }
-    ensures cols { IfOk result (λ _. All (λ j. j < shape.cols) cols.now) }
-    ensures none { IfOk result (λ _. NoFault (number_faults rows.now cols.now shape)) }
-    ensures fault { IfErr result (number_faults rows.now cols.now shape) }
+fn check_numbers(shape: Shape, rows: Option<&[u32]>, cols: Option<&[u32]>) -> Result<(), Fault>
+    ensures row_limit { IfOk result (λ _. AreFew (option_copied rows.entry)) }
+    ensures column_limit { IfOk result (λ _. AreFew (option_copied cols.entry)) }
+    ensures rows { IfOk result (λ _. AreBelow shape.rows (option_copied rows.entry)) }
+    ensures cols { IfOk result (λ _. AreBelow shape.cols (option_copied cols.entry)) }
+    ensures none { IfOk result (λ _. NoFault (number_faults (option_copied rows.entry) (option_copied cols.entry) shape)) }
+    ensures fault { IfErr result (number_faults (option_copied rows.entry) (option_copied cols.entry) shape) }
 {
-    if !are_few(rows, cols) {
+    if !are_few(rows) || !are_few(cols) {
         return Err(Fault::TooLarge);
     }
-    if !has_numbers(shape, rows, cols) {
+    if !are_below(rows, shape.rows()) || !are_below(cols, shape.cols()) {
         return Err(Fault::Place);
     }
     Ok(())
@@ -209,10 +214,10 @@ fn check_numbers(shape: Shape, rows: &[u32], cols: &[u32]) -> Result<(), Fault>
 fn extract_kept<S: Keep>(
     alloc: Global,
     matrix: &PanelledMatrix<S>,
-    rows: &[u32],
-    cols: &[u32],
+    rows: Option<&[u32]>,
+    cols: Option<&[u32]>,
 ) -> Result<Kept, Fault>
-    ensures { IsAnswer (number_faults rows.now cols.now matrix.now.shape) (Keeps S.name (extracted S.arithmetic rows.now cols.now matrix.now)) result }
+    ensures { IsExtractOf S.name S.arithmetic (option_copied rows.entry) (option_copied cols.entry) matrix.now result }
 {
     check_numbers(matrix.shape(), rows, cols)?;
     let whole = matrix.whole()?;
@@ -220,12 +225,17 @@ fn extract_kept<S: Keep>(
     Ok(keep_block::<S>(alloc, part))
 }
 
-/// Keeps the matrix of the rows and columns of a kept matrix by their numbers, in any order, with repetitions. Costs a
-/// binary search for each column number, the row numbers, and the entries of these columns. If the row numbers don't ascend,
-/// it also costs a binary search for each, and two transposes.
+/// Keeps the matrix of the rows and columns of a kept matrix by their numbers, in any order, with repetitions, or of all of
+/// them. Costs a binary search for each column number, the row numbers, and the entries of these columns. If the row numbers
+/// don't ascend, it also costs a binary search for each, and two transposes.
 #[tactic(auto, unfolding(crate::specs::Kept::semiring_of, crate::specs::Kept::matrix_in))]
-pub fn kept_extract(alloc: Global, kept: &Kept, rows: &[u32], cols: &[u32]) -> Result<Kept, Fault>
-    ensures { IsAnswer (number_faults rows.now cols.now (matrix_in kept.now).shape) (IsKeptExtract rows.now cols.now kept.now) result }
+pub fn kept_extract(
+    alloc: Global,
+    kept: &Kept,
+    rows: Option<&[u32]>,
+    cols: Option<&[u32]>,
+) -> Result<Kept, Fault>
+    ensures { IsExtractAnswer (option_copied rows.entry) (option_copied cols.entry) kept.now result }
 {
     of_matrix!(kept, matrix => extract_kept(alloc, matrix, rows, cols))
 }

@@ -11,14 +11,12 @@
 //! (max-min), and so on.
 #![tactic(auto)]
 
-mod axes;
 mod checks;
 mod faults;
 mod incoming;
 mod keeping;
 mod kept;
 mod kept_checks;
-mod kept_given;
 mod kept_graphs;
 mod kept_lists;
 mod kept_masked_panels;
@@ -28,22 +26,18 @@ mod kept_products;
 mod kept_selection_shares;
 mod kept_selections;
 mod kept_shares;
-mod kept_sources;
 mod kept_texts;
 mod kept_turned;
 mod kept_updates;
 mod kept_values;
-mod kept_walks;
 mod misfits;
 mod selections;
 mod texts;
 mod triples;
 
-pub use axes::{Axis, kept_degrees};
 pub use faults::Fault;
 pub use kept::Kept;
-pub use kept_given::kept_numbers_given;
-pub use kept_graphs::{kept_components, kept_parents, kept_triangles};
+pub use kept_graphs::{KeptAnswer, graph_task_of, kept_graph};
 pub use kept_lists::{keep_lists, lists_of};
 pub use kept_masked_panels::{Allowed, kept_masked_panel};
 pub use kept_operations::{operate, prune_of};
@@ -52,12 +46,10 @@ pub use kept_products::kept_outside;
 pub use kept_selection_shares::{kept_selection_columns, kept_update_columns};
 pub use kept_selections::{kept_extract, kept_selection, kept_total};
 pub use kept_shares::{kept_columns, kept_entry_ends};
-pub use kept_sources::kept_numbers_from;
 pub use kept_texts::{read_kept, text_of};
 pub use kept_turned::kept_turned_product;
 pub use kept_updates::{kept_update, write_back_of};
 pub use kept_values::{Summary, summary_of, value_at};
-pub use kept_walks::kept_numbers;
 pub use misfits::{first_outside, misfit_of_lists, misfit_of_triples};
 pub use selections::{function_of, power_of, region_of};
 pub use texts::Text;

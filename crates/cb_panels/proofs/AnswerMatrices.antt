@@ -1,10 +1,10 @@
--- What operations that threads share make of matrices are matrices.
-use Rattle.std.proofs.Common.{ℕ, zero, suc, Bool, cond, true, false, List, [], ◌∷◌, map}
+-- What operations and selections that threads share make of matrices are matrices.
+use Rattle.std.proofs.Common.{◌≡◌, ℕ, ◌<◌, zero, suc, Bool, cond, not, ◌==◌, true, false, List, [], ◌∷◌, map, arith}
 use Rattle.std.specs.Prelude.{All}
 use Rattle.std.specs.List.{range_with_len}
 use Rattle.std.proofs.lemmas.List.Elements.{All-head, All-tail, All-cons, All-nil}
 use Rattle.cb_semirings.specs.Arithmetic.{Arithmetic, IsSemiring, IsValue}
-use Rattle.cb_matrix.specs.Sparse.{Sparse, IsMatrix, at, value_at}
+use Rattle.cb_matrix.specs.Sparse.{Sparse, Extent, IsMatrix, at, value_at}
 use Rattle.cb_matrix.specs.Values.{product, product_shape, total}
 use Rattle.cb_matrix.specs.Operations.{has_entry}
 use Rattle.cb_matrix.specs.Passing.{passes}
@@ -13,6 +13,15 @@ use Rattle.cb_matrix.proofs.Totals.{total_value, each_value, value_at-value}
 use Rattle.cb_operations.specs.declared.operations.Operation.{Operation}
 use Rattle.cb_operations.specs.declared.operations.Operation.TheVariants.{Multiply, MultiplyMasked, MultiplyVector, Transpose, RowSums, ColumnSums, Add, Times, Prune}
 use Rattle.cb_operations.specs.OperationAnswers.{answer_of, matrix_at}
+use Rattle.cb_operations.specs.declared.functions.Function.{Function}
+use Rattle.cb_operations.specs.declared.functions.Function.TheVariants.{Constant, Sum, LeftProduct, RightProduct, Row, Column}
+use Rattle.cb_operations.specs.declared.selections.Selection.{Selection}
+use Rattle.cb_operations.specs.declared.selections.Selection.TheVariants as selection_is
+use Rattle.cb_operations.specs.Functions.{TakesValues, function_value, operand_of}
+use Rattle.cb_operations.specs.Regions.{is_in}
+use Rattle.cb_operations.specs.SelectionAnswers as selections
+use Rattle.cb_elementwise.specs.RuleLaws.{function_value-value}
+use Rattle.cb_shares.specs.ByColumns.{IsSelectionByColumns}
 
 module _ (s : Arithmetic) (laws : IsSemiring s) where
   -- each place of a matrix has a value
@@ -82,3 +91,43 @@ module _ (s : Arithmetic) (laws : IsSemiring s) where
   of_three_matrix operation a b c is is_b is_c =
       answer_matrix operation (a ∷ b ∷ c ∷ [])
       (listed (a ∷ b ∷ c ∷ []) (All-cons (IsMatrix s) a (b ∷ c ∷ []) is (All-cons (IsMatrix s) b (c ∷ []) is_b (All-cons (IsMatrix s) c [] is_c (All-nil (IsMatrix s))))))
+
+  -- the number that a function takes at a place inside the shape
+  taken : (f : Function) (shape : Extent) (i j : ℕ) → i < shape.rows → j < shape.cols → TakesValues s f shape → IsValue s (operand_of f i j)
+  taken (Constant n) shape i j l m takes = takes
+  taken (Sum n) shape i j l m takes = takes
+  taken (LeftProduct n) shape i j l m takes = takes
+  taken (RightProduct n) shape i j l m takes = takes
+  taken Row shape i j l m takes = takes i l
+  taken Column shape i j l m takes = takes j m
+
+  -- a selection by columns from one or two matrices is a matrix
+  pub one_selected_matrix : (selection : Selection) (a : Sparse) → selections.operand_count_of selection ≡ 1 → IsSelectionByColumns selection
+      → selections.Suits selection s (a.shape ∷ []) → IsMatrix s a → IsMatrix s (selections.answer_of selection s (a ∷ []))
+  one_selected_matrix (selection_is.Select region) a count by suits is =
+      IsMatrix-matrix_of s a.shape (λ i j. cond (is_in region i j) (at s a i j) s.zero)
+      (λ i j _ _. either (is_in region i j) (at s a i j) s.zero (value a is i j) laws.zero_value)
+  one_selected_matrix (selection_is.Apply f) a count by suits is =
+      IsMatrix-matrix_of s a.shape (λ i j. cond (not (at s a i j == s.zero)) (function_value s f i j (at s a i j)) s.zero)
+      (λ i j l m. either (not (at s a i j == s.zero)) (function_value s f i j (at s a i j)) s.zero (function_value-value s laws f i j (at s a i j) (taken f a.shape i j l m suits) (value a is i j)) laws.zero_value)
+  one_selected_matrix selection_is.Diagonal a count by suits is = absurd by
+  one_selected_matrix selection_is.DiagonalMatrix a count by suits is = absurd by
+  one_selected_matrix (selection_is.Power factors) a count by suits is = absurd by
+  one_selected_matrix (selection_is.Part rows cols) a count by suits is = absurd by
+  one_selected_matrix selection_is.Kronecker a count by suits is = absurd by
+  one_selected_matrix (selection_is.Assign corner) a count by suits is = absurd by
+  one_selected_matrix selection_is.Exclude a count by suits is = let c : 2 ≡ 1 = count in absurd (omega (arith, c))
+
+  pub two_selected_matrix : (selection : Selection) (a b : Sparse) → selections.operand_count_of selection ≡ 2 → IsSelectionByColumns selection
+      → IsMatrix s a → IsMatrix s (selections.answer_of selection s (a ∷ b ∷ []))
+  two_selected_matrix (selection_is.Select region) a b count by is = let c : 1 ≡ 2 = count in absurd (omega (arith, c))
+  two_selected_matrix (selection_is.Apply f) a b count by is = let c : 1 ≡ 2 = count in absurd (omega (arith, c))
+  two_selected_matrix selection_is.Diagonal a b count by is = absurd by
+  two_selected_matrix selection_is.DiagonalMatrix a b count by is = absurd by
+  two_selected_matrix (selection_is.Power factors) a b count by is = absurd by
+  two_selected_matrix (selection_is.Part rows cols) a b count by is = absurd by
+  two_selected_matrix selection_is.Kronecker a b count by is = absurd by
+  two_selected_matrix (selection_is.Assign corner) a b count by is = absurd by
+  two_selected_matrix selection_is.Exclude a b count by is =
+      IsMatrix-matrix_of s a.shape (λ i j. cond (has_entry s b i j) s.zero (at s a i j))
+      (λ i j _ _. either (has_entry s b i j) s.zero (at s a i j) laws.zero_value (value a is i j))

@@ -1,12 +1,27 @@
--- How many columns the results of operations have that threads share, and where ranges of all of them end.
+-- How many columns the results of operations and selections have that threads share, and where ranges of all of them end.
 use Rattle.std.proofs.Common.{◌≡◌, ℕ, List, [], ◌∷◌, length, refl, sym, subst, arith}
 use Rattle.cb_semirings.specs.Arithmetic.{Arithmetic}
 use Rattle.cb_matrix.specs.Sparse.{Sparse}
 use Rattle.cb_operations.specs.declared.operations.Operation.{Operation}
 use Rattle.cb_operations.specs.declared.operations.Operation.TheVariants.{Multiply, MultiplyMasked, MultiplyVector, Transpose, RowSums, ColumnSums, Add, Times, Prune}
-use Rattle.cb_operations.specs.OperationAnswers.{answer_of, operand_count_of}
-use Rattle.cb_shares.specs.ByColumns.{IsByColumns}
+use Rattle.cb_operations.specs.OperationAnswers.{Agree, answer_of, operand_count_of, shapes_in}
+use Rattle.cb_operations.specs.declared.selections.Selection.{Selection}
+use Rattle.cb_operations.specs.declared.selections.Selection.TheVariants as selection_is
+use Rattle.cb_operations.specs.SelectionAnswers as selections
+use Rattle.cb_shares.specs.ByColumns.{IsByColumns, IsSelectionByColumns}
 use Rattle.cb_shares.specs.Shares.{AreEnds}
+
+-- the shape of a single operand agrees
+pub of_one_agree : (operation : Operation) (a : Sparse) → operand_count_of operation ≡ 1 → Agree operation (shapes_in (a ∷ []))
+of_one_agree Multiply a count = let c : 2 ≡ 1 = count in absurd (omega (arith, c))
+of_one_agree MultiplyMasked a count = let c : 3 ≡ 1 = count in absurd (omega (arith, c))
+of_one_agree MultiplyVector a count = let c : 2 ≡ 1 = count in absurd (omega (arith, c))
+of_one_agree Transpose a count = tt
+of_one_agree RowSums a count = tt
+of_one_agree ColumnSums a count = tt
+of_one_agree Add a count = let c : 2 ≡ 1 = count in absurd (omega (arith, c))
+of_one_agree Times a count = let c : 2 ≡ 1 = count in absurd (omega (arith, c))
+of_one_agree (Prune test) a count = tt
 
 module _ (s : Arithmetic) where
   -- by columns there are as many as the operands have
@@ -43,6 +58,31 @@ module _ (s : Arithmetic) where
   of_three_cols Add a b c count = let k : 2 ≡ 3 = count in absurd (omega (arith, k))
   of_three_cols Times a b c count = let k : 2 ≡ 3 = count in absurd (omega (arith, k))
   of_three_cols (Prune test) a b c count = let k : 1 ≡ 3 = count in absurd (omega (arith, k))
+
+  -- and selections by columns
+  pub one_selected_cols : (selection : Selection) (a : Sparse) → selections.operand_count_of selection ≡ 1 → IsSelectionByColumns selection
+      → (selections.answer_of selection s (a ∷ [])).shape.cols ≡ a.shape.cols
+  one_selected_cols (selection_is.Select region) a count by = refl
+  one_selected_cols (selection_is.Apply function) a count by = refl
+  one_selected_cols selection_is.Diagonal a count by = absurd by
+  one_selected_cols selection_is.DiagonalMatrix a count by = absurd by
+  one_selected_cols (selection_is.Power factors) a count by = absurd by
+  one_selected_cols (selection_is.Part rows cols) a count by = absurd by
+  one_selected_cols selection_is.Kronecker a count by = absurd by
+  one_selected_cols (selection_is.Assign corner) a count by = absurd by
+  one_selected_cols selection_is.Exclude a count by = let c : 2 ≡ 1 = count in absurd (omega (arith, c))
+
+  pub two_selected_cols : (selection : Selection) (a b : Sparse) → selections.operand_count_of selection ≡ 2 → IsSelectionByColumns selection
+      → (selections.answer_of selection s (a ∷ b ∷ [])).shape.cols ≡ a.shape.cols
+  two_selected_cols (selection_is.Select region) a b count by = let c : 1 ≡ 2 = count in absurd (omega (arith, c))
+  two_selected_cols (selection_is.Apply function) a b count by = let c : 1 ≡ 2 = count in absurd (omega (arith, c))
+  two_selected_cols selection_is.Diagonal a b count by = absurd by
+  two_selected_cols selection_is.DiagonalMatrix a b count by = absurd by
+  two_selected_cols (selection_is.Power factors) a b count by = absurd by
+  two_selected_cols (selection_is.Part rows cols) a b count by = absurd by
+  two_selected_cols selection_is.Kronecker a b count by = absurd by
+  two_selected_cols (selection_is.Assign corner) a b count by = absurd by
+  two_selected_cols selection_is.Exclude a b count by = refl
 
 -- ends of ranges of so many columns are ends of as many ranges as there are
 pub all_ends : (count cols n : ℕ) (ends : List ℕ) → AreEnds count cols ends → n ≡ cols → AreEnds (length ends) n ends

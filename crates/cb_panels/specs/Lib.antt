@@ -1,0 +1,2 @@
+-- Shared: what threads share.
+pub mod Shared

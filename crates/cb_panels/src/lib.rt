@@ -1,4 +1,4 @@
-//! Operations by several threads, which share the operands: [`operate`] does any.
+//! Operations and selections by several threads, which share the operands: [`operate`] and [`select`] do any.
 //!
 //! For a product, each thread makes a panel of it: the product of the left block and some columns of the right. The columns
 //! are divided so that all panels take about the same number of products of two values, as in `cb_shares`. No operand is
@@ -9,6 +9,8 @@
 #![tactic(auto)]
 
 mod operations;
+mod ranges;
+mod selections;
 
 ghost use Rattle.std.specs.Prelude.{◌≡◌, ◌<◌, ◌≤◌, IfOk, length};
 ghost use Rattle.std.specs.Thread.{IsSync};
@@ -21,6 +23,7 @@ use cb_layout::PanelledMatrix;
 use cb_product::{ColumnIndex, multiply_columns, products_of_columns, total_products};
 use cb_semirings::Semiring;
 pub use operations::operate;
+pub use selections::select;
 use std::alloc::{AllocError, Global};
 use std::thread::{Threads, join};
 

@@ -1,99 +1,18 @@
 //! Results of operations by several threads, which share the operands.
-ghost use Rattle.std.specs.Prelude.{◌≡◌, ◌<◌, ◌≤◌, ◌-◌, [], ◌∷◌, length, slice_index, AllPairs, IfOk};
-ghost use Rattle.std.specs.Thread.{IsSync};
-ghost use Rattle.cb_matrix.specs.Sparse.{IsMatrix};
+ghost use Rattle.std.specs.Prelude.{◌≡◌, [], ◌∷◌, length, IfOk};
 ghost use Rattle.cb_operations.specs.OperationAnswers.{operand_count_of, Agree, answer_of, shapes_in};
 ghost use Rattle.cb_operations.specs.Operands.{lent_in};
-ghost use Rattle.cb_shares.specs.Shares.{panel, AreEnds};
 
+use crate::ranges::{Work, make_all};
 use crate::{Panels, multiply_panels};
 use cb_dcsc::Block;
 use cb_layout::PanelledMatrix;
 use cb_operations::Operation;
 use cb_semirings::Semiring;
 use cb_serial::{binary, unary};
-use cb_shares::{ends_by_entries, ends_of, is_by_columns, operation_columns};
+use cb_shares::{ends_by_entries, ends_of, is_by_columns};
 use std::alloc::{AllocError, Global};
-use std::thread::{Threads, join};
-
-/// The columns from `first` up to, but not including, `end` of a result, in one panel.
-fn make_range<S: Semiring>(
-    alloc: Global,
-    operation: Operation,
-    operands: &[&PanelledMatrix<S>],
-    first: u32,
-    end: u32,
-) -> Result<PanelledMatrix<S>, AllocError>
-    requires count { length operands.now ≡ operand_count_of operation }
-    requires agree { Agree operation (shapes_in (lent_in operands.now)) }
-    ensures { IfOk result (λ m. m ≡ panel (answer_of operation S.arithmetic (lent_in operands.now)) first end) }
-{
-    let block = operation_columns(alloc, operation, operands, first, end)?;
-    Ok(PanelledMatrix::from_block(alloc, block))
-}
-
-/// The columns of the first `count` ranges of a result. This thread makes those of the first range, and starts another thread
-/// for each range after it that has columns.
-#[cycle(ranges)]
-fn make_ranges<S: Semiring + Send + Sync, R: Threads + Sync>(
-    rt: &R,
-    alloc: Global,
-    operation: Operation,
-    operands: &[&PanelledMatrix<S>],
-    ends: &[u32],
-    count: usize,
-) -> Result<PanelledMatrix<S>, AllocError>
-    requires operands { length operands.now ≡ operand_count_of operation }
-    requires agree { Agree operation (shapes_in (lent_in operands.now)) }
-    requires matrix { IsMatrix S.arithmetic (answer_of operation S.arithmetic (lent_in operands.now)) }
-    requires ascending { AllPairs (λ c d. c ≤ d) ends.now }
-    requires some { 0 < count }
-    requires within { count ≤ length ends.now }
-    ensures { IfOk result (λ m. m ≡ panel (answer_of operation S.arithmetic (lent_in operands.now)) 0 (slice_index ends.now (count - 1))) }
-{
-    let end = ends[count - 1];
-    if count < 2 {
-        return make_range(alloc, operation, operands, 0, end);
-    }
-    let first = ends[count - 2];
-    let before = count - 1;
-    if first == end {
-        return make_ranges::<S, R>(rt, alloc, operation, operands, ends, before);
-    }
-    let (back, front) = join(
-        rt,
-        || -> Result<PanelledMatrix<S>, AllocError>
-            requires { (length operands.now ≡ operand_count_of operation) × Agree operation (shapes_in (lent_in operands.now)) }
-            ensures { IfOk result (λ m. m ≡ panel (answer_of operation S.arithmetic (lent_in operands.entry.now)) first end) }
-        { make_range(alloc, operation, operands, first, end) },
-        || -> Result<PanelledMatrix<S>, AllocError>
-            requires { IsSync R.row × (length operands.now ≡ operand_count_of operation) × Agree operation (shapes_in (lent_in operands.now)) × IsMatrix S.arithmetic (answer_of operation S.arithmetic (lent_in operands.now)) × AllPairs (λ c d. c ≤ d) ends.now × (0 < before) × (before ≤ length ends.now) }
-            ensures { IfOk result (λ m. m ≡ panel (answer_of operation S.arithmetic (lent_in operands.entry.now)) 0 (slice_index ends.entry.now (before - 1))) }
-        { make_ranges::<S, R>(rt, alloc, operation, operands, ends, before) },
-    );
-    let mut front = front?;
-    let mut back = back?;
-    cb_shares::join(alloc, &mut front, &mut back)?;
-    Ok(front)
-}
-
-/// The columns of all ranges of a result, which are all its columns.
-fn make_all<S: Semiring + Send + Sync, R: Threads + Sync>(
-    rt: &R,
-    alloc: Global,
-    operation: Operation,
-    operands: &[&PanelledMatrix<S>],
-    ends: &[u32],
-) -> Result<PanelledMatrix<S>, AllocError>
-    requires operands { length operands.now ≡ operand_count_of operation }
-    requires agree { Agree operation (shapes_in (lent_in operands.now)) }
-    requires matrix { IsMatrix S.arithmetic (answer_of operation S.arithmetic (lent_in operands.now)) }
-    requires ends { 0 < length ends.now }
-    requires all { AreEnds (length ends.now) (answer_of operation S.arithmetic (lent_in operands.now)).shape.cols ends.now }
-    ensures { IfOk result (λ m. m ≡ answer_of operation S.arithmetic (lent_in operands.now)) }
-{
-    make_ranges::<S, R>(rt, alloc, operation, operands, ends, ends.len())
-}
+use std::thread::Threads;
 
 /// The result of an operation on one matrix.
 fn of_one<S: Semiring + Send + Sync, R: Threads + Sync>(
@@ -109,7 +28,7 @@ fn of_one<S: Semiring + Send + Sync, R: Threads + Sync>(
     if panels.most > 1 && is_by_columns(operation) {
         let (cols, count) = (a.shape().cols(), panels.most as usize);
         let ends = ends_by_entries(alloc, &[a], cols, count, panels.least)?;
-        return make_all(rt, alloc, operation, &[a], &ends);
+        return make_all(rt, alloc, Work::Operation(operation), &[a], &ends);
     }
     let whole = a.whole()?;
     let made = unary(alloc, operation, whole.block())?;
@@ -133,7 +52,7 @@ fn of_two<'a, S: Semiring + Send + Sync, R: Threads + Sync>(
         let (cols, count) = (a.shape().cols(), panels.most as usize);
         prove_eq!(b.shape().cols(), cols);
         let ends = ends_by_entries(alloc, &[a, b], cols, count, panels.least)?;
-        return make_all(rt, alloc, operation, &[a, b], &ends);
+        return make_all(rt, alloc, Work::Operation(operation), &[a, b], &ends);
     }
     let left = a.whole()?;
     let right = b.whole()?;
@@ -180,7 +99,7 @@ fn of_three<'a, S: Semiring + Send + Sync, R: Threads + Sync>(
     prove_eq!(mask.shape().cols(), right.block().shape().cols());
     let count = panels.most.max(1) as usize;
     let ends = ends_of(alloc, left.block(), right.block(), count, panels.least)?;
-    make_all(rt, alloc, operation, &[a, b, mask], &ends)
+    make_all(rt, alloc, Work::Operation(operation), &[a, b, mask], &ends)
 }
 
 /// Computes an operation on matrices whose shapes agree, by as many threads as there are panels, this one among them. They share

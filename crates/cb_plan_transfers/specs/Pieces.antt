@@ -50,10 +50,14 @@ piece_cuts q shape = map (piece_cut q shape) (range_with_len 0 (q * q)) ++ op_is
 abbrev pub all_ranks : ℕ → List ℕ
 all_ranks q = range_with_len 0 (q * q)
 
+-- each rank adds up what it received from all ranks
+abbrev pub received_sums : ℕ → List Act
+received_sums q = each_works q (λ _. sums (1 + q * q) (q * q))
+
 -- each rank receives its part of each piece, and adds them up
 abbrev pub pieces_acts : ℕ → Extent → List Act
 pieces_acts q shape =
     (each_works q (λ _. piece_cuts q shape)
     ++ (rounds (all_ranks q) (tagged 0) 1 (1 + q * q)
-    ++ each_works q (λ _. sums (1 + q * q) (q * q))))
+    ++ received_sums q))
     ++ shut_acts (q * q)

@@ -2,8 +2,7 @@
 ghost use Rattle.std.specs.Prelude.{◌≡◌, ◌<◌, ◌+◌, ◌*◌, IfOk, OnOk};
 ghost use Rattle.cb_plan_parts.specs.Growth.{Grew};
 ghost use Rattle.cb_plan_operations.specs.VectorPlans.{works, each_works};
-ghost use Rattle.cb_plan_transfers.specs.Pieces.{IsPiecesPlan, all_ranks, piece_cuts};
-ghost use Rattle.cb_plan_transfers.specs.Rounds.{sums};
+ghost use Rattle.cb_plan_transfers.specs.Pieces.{IsPiecesPlan, all_ranks, piece_cuts, received_sums};
 ghost use Rattle.cb_plan_transfers.specs.WholeStarts.{all_whole};
 
 use crate::rounds::exchange_in_rounds;
@@ -61,7 +60,7 @@ fn all_ranks(alloc: Global, grid: &Grid) -> Result<Vec<u16>, AllocError>
 
 /// Each rank adds up what it received, from slot `1 + ranks` on.
 fn add_parts(plan: &mut Plan, grid: &Grid) -> Result<(), PlanFault>
-    ensures acts { OnOk result (Grew (each_works grid.now.side (λ _. sums (1 + grid.now.side * grid.now.side) (grid.now.side * grid.now.side))) plan.old plan.new) }
+    ensures acts { OnOk result (Grew (received_sums grid.now.side) plan.old plan.new) }
 {
     let ranks = grid.ranks();
     for rank in 0..ranks {

@@ -55,6 +55,10 @@ module _ (before now : List ℕ) (i : ℕ) (inside : i < length now) (also : i <
       let y = get_or_default before i 0 infinite also in
       fallen_not before now i (omega (arith, x, y))
 
+-- the numbers of a list, from before, are lowered to what edges reach from the numbers of a column
+abbrev pub RelaxesTo : Sparse → List ℕ → List ℕ → Sparse → Type 0
+RelaxesTo a before now x = (i : ℕ) → i < a.shape.rows → slice_index_or now i infinite ≡ min (slice_index_or before i infinite) (at min_plus (product min_plus a x) i 0)
+
 -- the edges of a block are relaxed from the numbers x
 module _ (a x : Sparse) where
   abbrev reached : ℕ → ℕ
@@ -67,7 +71,7 @@ module _ (a x : Sparse) where
       (λ i j _ _. let h = total_stops (λ k. min (at min_plus a i k + at min_plus x k j) infinite) 0 a.shape.cols in omega arith)).inside
       (λ m _. omega arith)
 
-  module _ (before now : List ℕ) (len : length before ≡ a.shape.rows) (same : length now ≡ length before) (sums : (i : ℕ) → i < a.shape.rows → slice_index_or now i infinite ≡ min (slice_index_or before i infinite) (reached i)) where
+  module _ (before now : List ℕ) (len : length before ≡ a.shape.rows) (same : length now ≡ length before) (sums : RelaxesTo a before now x) where
     -- each number is the least of what it was before and what is reached
     pub relaxed_least : (v : ℕ) → slice_index_or now v infinite ≡ min (slice_index_or before v infinite) (reached v)
     relaxed_least v =

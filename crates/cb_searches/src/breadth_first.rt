@@ -30,17 +30,14 @@ const COLUMNS_PER_REACHED: usize = 32;
 const ENTRIES_PER_EDGE: usize = 4;
 
 /// The looks for each entry with which rounds up are given up, if the transpose has yet to be made. Those of a round that
-/// [grows](GROWTH) don't count.
+/// [grows fast](grows_fast) don't count.
 const LOOKS_PER_ENTRY: usize = 2;
-
-/// A round grows if it reaches this many times as many vertices as the one before.
-const GROWTH: usize = 2;
 
 /// The levels of the vertices from a source, in the graph of a square block.
 ///
-/// Rounds go up at first, as the block is. After two looks for each entry in rounds that reach fewer than twice as many
-/// vertices as the one before, or at once if the numbers aren't in a list, the block is transposed, and the other rounds are
-/// made as [`breadth_first`] does.
+/// Rounds go up at first, as the block is. After two looks for each entry in rounds that don't grow fast enough to reach all
+/// vertices in two more, or at once if the numbers aren't in a list, the block is transposed, and the other rounds are made
+/// as [`breadth_first`] does.
 pub(crate) fn level_numbers(
     alloc: Global,
     graph: &Block<OrAnd>,
@@ -85,7 +82,7 @@ fn rounds_up(list: &mut [u64], graph: &Block<OrAnd>) -> Option<u32>
         if reached == 0 {
             return None;
         }
-        if reached / GROWTH < reached_before {
+        if !grows_fast(reached_before, reached, graph.columns()) {
             if looks_left <= looks {
                 return Some(rounds + 1);
             }
@@ -94,6 +91,13 @@ fn rounds_up(list: &mut [u64], graph: &Block<OrAnd>) -> Option<u32>
         reached_before = reached;
     }
     Some(shape.rows())
+}
+
+/// Whether two more rounds reach this many vertices, if each reaches as many times as many as the one before it as the last
+/// round did. Only then is it soon worth while to go up: a round up that reaches few vertices reads nearly all entries.
+fn grows_fast(before: usize, reached: usize, all: usize) -> bool {
+    let rate = reached / before.max(1);
+    reached.saturating_mul(rate).saturating_mul(rate) >= all
 }
 
 /// The levels of the vertices from a source, in the graph of a square block, given its transpose too.

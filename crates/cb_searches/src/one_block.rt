@@ -52,8 +52,8 @@ pub fn distances(
 ///
 /// The search goes [from the bottom up](crate::breadth_first) at first, without a transpose. A round costs a look at each
 /// column that has entries, and at the rows of each column without a level, up to the first that a round before reached.
-/// After two looks for each entry in rounds that reach fewer than twice as many vertices as the one before, or at once if
-/// there are more than four vertices for each entry, the block is transposed, and the search goes on as [`levels_by`].
+/// After two looks for each entry in rounds that don't grow fast enough to reach all vertices in two more, or at once if there
+/// are more than four vertices for each entry, the block is transposed, and the search goes on as [`levels_by`].
 pub fn levels(
     alloc: Global,
     graph: &Block<OrAnd>,

@@ -18,7 +18,7 @@ use std::alloc::{AllocError, Global};
 
 /// Relaxes the edges from the vertices whose numbers fell, and returns the numbers that fall now, as a column. The
 /// edges are the entries of the transposed matrix. Costs what [`add_product`] does, and a few instructions for each
-/// vertex. If memory for a copy of the list is refused, the list stays as it was.
+/// vertex. If memory for copies of the list and of the column is refused, the list stays as it was.
 pub(crate) fn relax_list(
     alloc: Global,
     list: &mut [u64],
@@ -38,7 +38,8 @@ pub(crate) fn relax_list(
 {
     let shape = edges.shape().with_columns_of(fell.shape());
     let before = Vec::from_slice(alloc, list)?;
-    add_product::<MinPlus>(list, edges, fell);
+    let column = Block::from_ordered(alloc, fell.shape(), fell.entries())?;
+    add_product::<MinPlus>(list, edges, &column);
     fallen_column(alloc, shape, &before, list)
 }
 

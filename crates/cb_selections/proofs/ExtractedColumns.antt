@@ -1,12 +1,16 @@
 -- Rows and columns by their numbers.
-use Rattle.std.proofs.Common.{◌≡◌, ℕ, ◌<◌, List, length, get_or, ◌∙◌}
+use Rattle.std.proofs.Common.{◌≡◌, ℕ, ◌<◌, List, length, get_or, ap, sym, ◌∙◌, arith}
 use Rattle.std.specs.Prelude.{All}
+use Rattle.std.specs.List.{range_with_len}
 use Rattle.std.proofs.lemmas.List.Elements.{All-get_or}
-use Rattle.cb_semirings.specs.Arithmetic.{Arithmetic}
-use Rattle.cb_matrix.specs.Sparse.{Sparse, at}
+use Rattle.std.proofs.lemmas.List.FromFn.{length-range_with_len, get_or-range_with_len}
+use Rattle.cb_semirings.specs.Arithmetic.{Arithmetic, IsSemiring}
+use Rattle.cb_matrix.specs.Sparse.{Sparse, IsMatrix, at}
+use Rattle.cb_matrix.specs.Values.{matrix_of}
 use Rattle.cb_matrix.specs.Operations.{transposed}
 use Rattle.cb_matrix.proofs.Made.{at-matrix_of, same_matrix_of}
 use Rattle.cb_selections.specs.Extracted.{extracted, rows_by, columns_by}
+use Rattle.cb_selections.proofs.ListedRows.{all_listed}
 
 -- the rows of the columns
 pub extracted_is : (s : Arithmetic) (a : Sparse) (rows cols : List ℕ) → All (λ i. i < a.shape.rows) rows → rows_by s rows (columns_by s cols a) ≡ extracted s rows cols a
@@ -22,3 +26,31 @@ rows_are s a rows inside =
     let low : get_or rows i 0 < a.shape.rows = All-get_or (λ i. i < a.shape.rows) rows i 0 l inside in
     at-matrix_of s (record { rows = a.shape.cols; cols = length rows }) (λ i j. at s turned i (get_or rows j 0)) j i m l
     ∙ at-matrix_of s (record { rows = a.shape.cols; cols = a.shape.rows }) (λ i j. at s a j i) j (get_or rows i 0) m low)
+
+-- the nth of all numbers below a bound
+nth : (n i : ℕ) → i < n → get_or (range_with_len 0 n) i 0 ≡ i
+nth n i l = omega (arith, get_or-range_with_len 0 n i 0 l)
+
+module _ (s : Arithmetic) (a : Sparse) where
+  -- columns are those of all rows
+  pub columns_of_all : (cols : List ℕ) → columns_by s cols a ≡ extracted s (range_with_len 0 a.shape.rows) cols a
+  columns_of_all cols =
+      let all = range_with_len 0 a.shape.rows in
+      let count = length-range_with_len 0 a.shape.rows in
+      same_matrix_of s (record { rows = a.shape.rows; cols = length cols }) (λ i j. at s a i (get_or cols j 0)) (λ i j. at s a (get_or all i 0) (get_or cols j 0)) (λ i j l _. ap (λ r. at s a r (get_or cols j 0)) (sym (nth a.shape.rows i l)))
+      ∙ (λ z. matrix_of s (record { rows = sym count z; cols = length cols }) (λ i j. at s a (get_or all i 0) (get_or cols j 0)))
+
+  -- and rows those of all columns
+  pub rows_of_all : (rows : List ℕ) → rows_by s rows a ≡ extracted s rows (range_with_len 0 a.shape.cols) a
+  rows_of_all rows =
+      let all = range_with_len 0 a.shape.cols in
+      let count = length-range_with_len 0 a.shape.cols in
+      same_matrix_of s (record { rows = length rows; cols = a.shape.cols }) (λ i j. at s a (get_or rows i 0) j) (λ i j. at s a (get_or rows i 0) (get_or all j 0)) (λ i j _ m. ap (at s a (get_or rows i 0)) (sym (nth a.shape.cols j m)))
+      ∙ (λ z. matrix_of s (record { rows = length rows; cols = sym count z }) (λ i j. at s a (get_or rows i 0) (get_or all j 0)))
+
+  -- a matrix has all of its rows and columns
+  pub whole_is : IsSemiring s → IsMatrix s a → a ≡ extracted s (range_with_len 0 a.shape.rows) (range_with_len 0 a.shape.cols) a
+  whole_is laws is =
+      let all = range_with_len 0 a.shape.rows in
+      let count = length-range_with_len 0 a.shape.rows in
+      all_listed s a is all laws count (λ i l. nth a.shape.rows i (omega (arith, l, count))) ∙ rows_of_all all

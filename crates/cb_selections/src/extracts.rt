@@ -2,12 +2,12 @@
 //!
 //! Columns are found one by one. Rows are the columns of the transpose; but where their numbers ascend, their entries stay in
 //! order, so each entry's row is looked up instead, in a table with a place for each row of the block.
-ghost use Rattle.std.specs.Prelude.{◌≡◌, ◌≢◌, ℕ, ◌<◌, ◌≤◌, IsTrue, length, slice_index, All, AllPairs, IfOk, IfSome, IfNone, OnOk};
+ghost use Rattle.std.specs.Prelude.{◌≡◌, ◌≢◌, ℕ, ◌<◌, ◌≤◌, IsTrue, None, option_copied, length, slice_index, All, AllPairs, IfOk, IfSome, IfNone, OnOk};
 ghost use Rattle.cb_semirings.specs.Arithmetic.{IsValue};
 ghost use Rattle.cb_matrix.specs.Sparse.{IsMatrix};
 ghost use Rattle.cb_matrix.specs.Values.{empty_matrix};
 ghost use Rattle.cb_dcsc.specs.Columns.{in_column, rows_of, values_of};
-ghost use Rattle.cb_selections.specs.Extracted.{extracted, rows_by, columns_by};
+ghost use Rattle.cb_selections.specs.Extracted.{AreBelow, AreFew, extracted, extracted_by, rows_by, columns_by};
 ghost use Rattle.cb_selections.specs.ListedRows.{ArePlaces, IsListed};
 
 use crate::shape_of;
@@ -21,11 +21,40 @@ use std::alloc::{AllocError, Global};
 /// The most rows of a block for each listed row or entry for which a table of all its rows costs no more than they do.
 const ROWS_PER_PLACE: usize = 4;
 
-/// The rows and columns of a block with the given numbers, in that order. A number may appear more than once.
+/// The rows and columns of a block with the given numbers, in that order, or all of them. A number may appear more than once.
 ///
 /// Costs what the columns cost (`extract_columns`), and what the rows cost (`extract_rows`) in these columns. If the numbers of
 /// the rows are those of all rows, in order, each costs a comparison.
 pub fn extract<S: Semiring>(
+    alloc: Global,
+    block: &Block<S>,
+    rows: Option<&[u32]>,
+    cols: Option<&[u32]>,
+) -> Result<Block<S>, AllocError>
+    requires rows { AreBelow block.now.shape.rows (option_copied rows) }
+    requires cols { AreBelow block.now.shape.cols (option_copied cols) }
+    requires row_limit { AreFew (option_copied rows) }
+    requires column_limit { AreFew (option_copied cols) }
+    ensures { IfOk result (λ part. part ≡ extracted_by S.arithmetic (option_copied rows.entry) (option_copied cols.entry) block.now) }
+{
+    match (rows, cols) {
+        (Some(rows), Some(cols)) => extract_both(alloc, block, rows, cols),
+        (Some(rows), None) => extract_rows(alloc, block, rows),
+        (None, Some(cols)) => extract_columns(alloc, block, cols),
+        (None, None) => copy(block),
+    }
+}
+
+/// A copy of a block, which has all its rows and columns.
+fn copy<S: Semiring>(block: &Block<S>) -> Result<Block<S>, AllocError>
+    ensures { IfOk result (λ whole. whole ≡ extracted_by S.arithmetic None None block.now) }
+{
+    prove_eq!(block.shape(), block.shape());
+    block.try_clone()
+}
+
+/// The rows and columns with the given numbers.
+fn extract_both<S: Semiring>(
     alloc: Global,
     block: &Block<S>,
     rows: &[u32],

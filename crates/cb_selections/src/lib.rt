@@ -42,7 +42,7 @@ pub use diagonals::{diagonal, diagonal_matrix};
 pub use extracts::{extract, extract_columns, extract_rows};
 pub use kronecker_products::kronecker;
 pub use powers::power;
-pub use selections::{SelectionFault, compute};
+pub use selections::{SelectionFault, binary, compute, unary};
 use std::alloc::{AllocError, Global};
 pub use turned_products::multiply_turned;
 pub use updates::{WriteBack, update};

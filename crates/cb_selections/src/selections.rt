@@ -49,8 +49,8 @@ impl From<SelectionRefusal> for SelectionFault {
     }
 }
 
-/// The selection from one block, from which it can be made.
-fn unary<S: Semiring>(
+/// Makes a selection from one block, from which it can be made ([`Selection::check`]).
+pub fn unary<S: Semiring>(
     alloc: Global,
     selection: Selection,
     a: &Block<S>,
@@ -70,8 +70,8 @@ fn unary<S: Semiring>(
     }
 }
 
-/// The selection from two blocks, from which it can be made.
-fn binary<S: Semiring>(
+/// Makes a selection from two blocks, from which it can be made.
+pub fn binary<S: Semiring>(
     alloc: Global,
     selection: Selection,
     a: &Block<S>,

@@ -4,7 +4,6 @@ ghost use Rattle.cb_matrix.specs.Values.{product};
 
 use cb_dcsc::Block;
 use cb_dense::add_product;
-use cb_matrix::Matrix;
 use cb_product::multiply;
 use cb_reshape::{column_of_list, has_few_rows};
 use cb_semirings::Semiring;
@@ -41,9 +40,7 @@ fn listed_product<S: Semiring>(
     ensures { IfOk result (λ m. m ≡ product S.arithmetic matrix.now vector.now) }
 {
     let shape = matrix.shape().with_columns_of(vector.shape());
-    let entries = vector.entries()?;
-    let listed = Matrix::<S>::from_ordered(vector.shape(), entries);
     let mut sums = vec![in alloc; S::zero(); shape.rows() as usize]?;
-    add_product(&mut sums, matrix, &listed);
+    add_product(&mut sums, matrix, vector);
     column_of_list(alloc, shape, &sums)
 }

@@ -32,7 +32,7 @@ use cb_semirings::Semiring;
 pub use columns::columns_between;
 pub use entry_ends::ends_by_entries;
 pub use joins::{are_before, join, total};
-pub use selections::{selection_columns, update_columns};
+pub use selections::{is_selection_by_columns, selection_columns, update_columns};
 use std::alloc::{AllocError, Global};
 
 /// Returns where each of `count` shares of a product's columns ends. All shares take about the same number of products of

@@ -18,7 +18,7 @@ use cb_semirings::Semiring;
 use std::alloc::{AllocError, Global};
 
 /// Whether each column of a selection is made of the same columns of all operands.
-fn is_by_columns(selection: Selection) -> bool
+pub fn is_selection_by_columns(selection: Selection) -> bool
     ensures { IsTrue result → IsSelectionByColumns selection }
 {
     match selection {
@@ -72,7 +72,7 @@ fn columns_of_one<S: Semiring>(
     ensures fault { IfErr result (IsFaultOf selection S.arithmetic (a.now ∷ [])) }
 {
     selection.check::<S>(&[a.shape()])?;
-    if is_by_columns(selection) {
+    if is_selection_by_columns(selection) {
         let part = columns_between(alloc, a, first, end)?;
         return made_of_one(alloc, selection, part.block());
     }
@@ -96,7 +96,7 @@ fn columns_of_two<S: Semiring>(
     ensures fault { IfErr result (IsFaultOf selection S.arithmetic (a.now ∷ b.now ∷ [])) }
 {
     selection.check::<S>(&[a.shape(), b.shape()])?;
-    if is_by_columns(selection) {
+    if is_selection_by_columns(selection) {
         let left = columns_between(alloc, a, first, end)?;
         let right = columns_between(alloc, b, first, end)?;
         return made_of_two(alloc, selection, left.block(), right.block());

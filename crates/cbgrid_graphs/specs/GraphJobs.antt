@@ -2,7 +2,7 @@
 use Rattle.std.specs.Prelude.{ℕ, ◌≡◌, List}
 use Rattle.cb_command_line.specs.declared.jobs.EngineName.TheVariants.{Plain}
 use Rattle.cb_command_line.specs.declared.jobs.Job.{Job}
-use Rattle.cb_command_line.specs.declared.tasks.GraphTask.{GraphTask}
+use Rattle.cb_operations.specs.declared.graphs.GraphTask.{GraphTask}
 use Rattle.cb_command_line.specs.declared.tasks.Task.TheVariants.{Graph}
 use Rattle.cb_job_ends.specs.declared.faults.JobFault.{JobFault}
 use Rattle.cb_job_graphs.specs.GraphTasks.{IsGraphAnswer, IsGraphFault}

@@ -3,10 +3,10 @@
 #![tactic(auto)]
 
 ghost use Rattle.std.specs.Prelude.{◌≡◌, IfSome, None};
-ghost use Rattle.cb_command_line.specs.declared.tasks.GraphTask.{GraphTask};
+ghost use Rattle.cb_operations.specs.declared.graphs.GraphTask.{GraphTask};
 ghost use Rattle.cbgrid_graphs.specs.GraphJobs.{Asks, IsJobAnswer, IsJobFault};
 
-use cb_command_line::{EngineName, GraphTask, Job, Task};
+use cb_command_line::{EngineName, Job, Task};
 use cb_job_ends::faults::JobFault;
 use cb_job_ends::sinks::Sink;
 use cb_job_ends::texts::Text;
@@ -15,6 +15,7 @@ use cb_job_runs::endings::Status;
 use cb_job_runs::runs::Program;
 use cb_job_runs::system_files::SystemFiles;
 use cb_job_runs::system_runs::run_on_system;
+use cb_operations::GraphTask;
 use std::alloc::Global;
 use std::thread::Threads;
 

@@ -10,6 +10,7 @@ from ._calls import CALLS
 SEMIRING, TEST, MIXED, TOO_LARGE, LENGTHS, ORDER, PLACE, VALUE = 1, 2, 3, 5, 6, 7, 8, 9
 SHAPES, SOURCE, FORMAT, MEMORY = 10, 12, 13, 14
 LIMIT = 2147483647
+ALL = ctypes.c_size_t(-1).value  # in place of the length of a list of rows or columns
 
 
 class Columns(ctypes.Structure):

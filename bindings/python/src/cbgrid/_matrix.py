@@ -10,7 +10,7 @@ import numpy as np
 import scipy.sparse
 
 from . import _lists
-from ._library import FORMAT, LENGTHS, LIMIT, ORDER, PLACE, SEMIRING, SHAPES, SOURCE, TEST, TOO_LARGE, VALUE
+from ._library import ALL, FORMAT, LENGTHS, LIMIT, ORDER, PLACE, SEMIRING, SHAPES, SOURCE, TEST, TOO_LARGE, VALUE
 from ._library import How, Text, error, library
 
 # The semirings in the order of their numbers.
@@ -259,14 +259,16 @@ class Matrix:
         at_columns = at_columns if column_places is None else column_places[at_columns]
         return Matrix.from_triples(at_rows, at_columns, values, (len(rows), len(columns)), self.semiring)
 
-    def _listed(self, numbers: Any, axis: int) -> tuple[np.ndarray, np.ndarray | None]:
-        """The numbers of a list or a range, and None.
+    def _listed(self, numbers: Any, axis: int) -> tuple[np.ndarray | None, np.ndarray | None]:
+        """The numbers of a list or a range, or None for all, and None.
 
         For a range that is much longer than the number of entries: its rows or columns that have entries, and their
         places in the range.
         """
         if not isinstance(numbers, range):
             return numbers, None
+        if numbers == range(self.shape[axis]):
+            return None, None
         if len(numbers) <= 2 * self.nnz + 1000:
             return np.arange(numbers.start, numbers.stop, numbers.step, np.int64).astype(np.uint32), None
         present = np.unique(self.to_triples()[axis]).astype(np.int64)
@@ -274,10 +276,11 @@ class Matrix:
         inside = (rest == 0) & (places >= 0) & (places < len(numbers))
         return present[inside].astype(np.uint32), places[inside]
 
-    def _extracted(self, rows: np.ndarray, columns: np.ndarray) -> Matrix:
-        rows, columns = (np.ascontiguousarray(it, np.uint32) for it in (rows, columns))
-        lists = rows.ctypes.data, len(rows), columns.ctypes.data, len(columns)
-        return self._made(library.cbgrid_matrix_extract, *lists, None)
+    def _extracted(self, rows: np.ndarray | None, columns: np.ndarray | None) -> Matrix:
+        """The rows and columns of lists; None stands for all."""
+        lists = [None if it is None else np.ascontiguousarray(it, np.uint32) for it in (rows, columns)]
+        pairs = [(None, ALL) if it is None else (it.ctypes.data, len(it)) for it in lists]
+        return self._made(library.cbgrid_matrix_extract, *pairs[0], *pairs[1], None)
 
     def _lists(self) -> _lists.Answer:
         """A copy of the lists of the columns."""

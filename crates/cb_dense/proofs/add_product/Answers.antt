@@ -1,63 +1,73 @@
 use Rattle.std.proofs.Common.{◌≡◌, ℕ, ◌+◌, ◌<◌, ◌≤◌, length, get_or, subst, sym, ap, ◌∙◌, arith}
 use Rattle.std.specs.Prelude.{All}
-use Rattle.cb_matrix.specs.declared.Entry.{Entry}
-use Rattle.cb_matrix.specs.Sparse.{at}
-use Rattle.cb_matrix.specs.Values.{product}
+use Rattle.std.proofs.lemmas.List.Elements.{All-get_or}
 use Rattle.cb_semirings.specs.Arithmetic.{IsValue}
 use Rattle.cb_dcsc.specs.Columns.{in_column, rows_of, values_of}
 use Rattle.cb_dcsc.proofs.Lookup.{rows_inside}
-use Rattle.cb_product.proofs.AbsentColumns.{nothing_there}
-use Rattle.cb_dense.proofs.NamedColumns.{not_among, rows_ascend, column_added, column_absent, all_columns_added, named_product, named_sum}
+use Rattle.cb_dense.proofs.ListedColumns.{rows_ascend, values_are, same_length, value_there, value_between, column_added, column_passed, all_columns_added, listed_product, listed_sum}
 use Rattle.cb_dense.proofs.add_product.Goals as goal
-use Rattle.cb_dense.proofs.add_product.Goals.{then-next-columns+then-columns-next, else-next-columns, else-next-columns-via-then-next-columns+else-columns-next, else-next-columns-via-else-next-columns}
+use Rattle.cb_dense.proofs.add_product.Goals.{then-next-places+then-places-next, else-next-places, else-next-places-via-then-next-places+else-places-next, else-next-places-via-else-next-places}
+
+pub advance-next-requires-clause-ascending : goal.advance-next-requires-clause-ascending
+advance-next-requires-clause-ascending g c =
+    rows_ascend g.S.Semiring.arithmetic c.args.vector.now c.shape-2.ensures.matrix c.requires.column _ c.row_numbers-places.ensures
+
+pub add_column-requires-clause-scale : goal.add_column-requires-clause-scale
+add_column-requires-clause-scale g c =
+    let s = g.S.Semiring.arithmetic in
+    let factors = c.values-factors.result.now in
+    let long : length factors ≡ length c.row_numbers-places.result.now = same_length s c.args.vector.now c.shape-2.ensures.matrix c.requires.column _ factors c.row_numbers-places.ensures c.values-factors.ensures in
+    All-get_or (IsValue s) factors c.advance-next.result 0 (omega (arith, long, c.if-next-places.true)) (values_are s c.args.vector.now c.shape-2.ensures.matrix c.requires.column factors c.values-factors.ensures)
 
 pub add_column-requires-clause-inside : goal.add_column-requires-clause-inside
 add_column-requires-clause-inside g c =
-    subst (λ n. All (λ i. i < n) c.nth_column.result.0.now) (sym (c.loop-entry.invariant.long ∙ c.requires.length))
+    subst (λ n. All (λ i. i < n) c.nth_column.result.0.now) (sym (c.loop-n.invariant.long ∙ c.requires.length))
     (rows_inside g.S.Semiring.arithmetic c.args.matrix.now _ _ c.shape.ensures.matrix c.nth_column.ensures.rows)
 
-pub loop-entry-preserved : goal.loop-entry-preserved
-loop-entry-preserved g c =
+pub loop-n-preserved : goal.loop-n-preserved
+loop-n-preserved g c =
     let s = g.S.Semiring.arithmetic in
     let laws = g.met.S.Semiring.is_semiring in
-    let inv = c.loop-entry.invariant in
+    let inv = c.loop-n.invariant in
     let a = c.args.matrix.now in
+    let x = c.args.vector.now in
     let is = c.shape.ensures.matrix in
-    let vector_is = c.shape-2.ensures.matrix in
-    let es = c.entries-entries.result.now in
-    let n = c.loop-entry.entry-index in
-    let l = c.loop-entry-test.true in
+    let is_x = c.shape-2.ensures.matrix in
+    let one = c.requires.column in
+    let n = c.loop-n.n in
+    let l = c.loop-n-test.true in
     let numbers = c.column_numbers-columns.ensures in
     let columns = c.column_numbers-columns.result.now in
+    let places = c.row_numbers-places.result.now in
+    let factors = c.values-factors.result.now in
+    let column : ℕ = get_or columns n 0 in
     let next = c.advance-next.ensures in
-    let d : Entry = record { row = 0; column = 0; value = 0 } in
-    let entry : Entry = get_or es n d in
-    let values : All (λ e. IsValue s e.value) es = rw c.entries-entries.ensures vector_is.values in
-    let before : (k m : ℕ) (d : Entry) → k < c.advance-next.result → n + 1 ≤ m → m < length es → get_or columns k 0 < (get_or es m d).row = λ k m f b o w.
-    let earlier = next.before k b in
-    let later = rows_ascend s c.args.vector.now vector_is c.requires.column es c.entries-entries.ensures n m d f (omega arith) w in
+    let before : (k m : ℕ) → k < c.advance-next.result → n + 1 ≤ m → m < length columns → get_or places k 0 < get_or columns m 0 = λ k m f b w.
+    let earlier = next.before k f in
+    let later : get_or columns n 0 < get_or columns m 0 = numbers.ascending n m 0 (omega arith) w in
     omega arith in
-    elim c.if-next-columns.branch [
-      | then-next-columns+then-columns-next w ↦
-          let column = w.nth_column.ensures in
-          let here = ap (λ cs. get_or cs c.advance-next.result 0) (sym numbers.numbers) ∙ w.if-columns-next.true in
+    elim c.if-next-places.branch [
+      | then-next-places+then-places-next w ↦
+          let lists = w.nth_column.ensures in
+          let here = ap (λ cs. get_or cs n 0) (sym numbers.numbers) in
+          let factor = value_there s x is_x one places factors c.row_numbers-places.ensures c.values-factors.ensures c.advance-next.result column w.if-next-places.true w.if-places-next.true in
           rw w.sums-is (record {
             long = w.add_column.ensures.length ∙ inv.long;
             values = w.add_column.ensures.values;
             before = before;
-            sums = λ i li. column_added s laws a is es values n _ l _ c.loop-entry.sums _ _ _ (column.rows ∙ ap (λ k. rows_of (in_column k a.entries)) here) (column.values ∙ ap (λ k. values_of (in_column k a.entries)) here) inv.values w.add_column.ensures.sums inv.sums i (subst (λ m. i < m) w.add_column.ensures.length li);
+            sums = λ i li. column_added s laws a x is is_x columns n l _ c.loop-n.sums _ _ _ _ (lists.rows ∙ ap (λ k. rows_of (in_column k a.entries)) here) (lists.values ∙ ap (λ k. values_of (in_column k a.entries)) here) factor inv.values w.add_column.ensures.sums inv.sums i (subst (λ m. i < m) w.add_column.ensures.length li);
           })
-      | else-next-columns w ↦
-          let after : c.advance-next.result < length columns → entry.row < get_or columns c.advance-next.result 0 = elim w.else-next-columns.branch [
-            | else-next-columns-via-then-next-columns+else-columns-next v ↦ λ m. let reached = next.reached m in let other = v.if-columns-next.false in omega arith
-            | else-next-columns-via-else-next-columns v ↦ λ m. let past = v.if-next-columns.false in absurd (omega arith)
+      | else-next-places w ↦
+          let after : c.advance-next.result < length places → column < get_or places c.advance-next.result 0 = elim w.else-next-places.branch [
+            | else-next-places-via-then-next-places+else-places-next v ↦ λ m. let reached = next.reached m in let other = v.if-places-next.false in omega arith
+            | else-next-places-via-else-next-places v ↦ λ m. let past = v.if-next-places.false in absurd (omega arith)
           ] in
-          let absent = nothing_there entry.row a.entries columns numbers.all (not_among columns c.advance-next.result entry.row numbers.ascending next.before after) in
+          let none = value_between s x is_x one places factors c.row_numbers-places.ensures c.values-factors.ensures c.advance-next.result column next.before after in
           rw w.sums-is (record {
             long = inv.long;
             values = inv.values;
             before = before;
-            sums = column_absent s laws a is es values n _ l _ c.loop-entry.sums absent inv.sums;
+            sums = column_passed s laws a x is is_x columns n l _ c.loop-n.sums none inv.sums;
           })
     ]
 
@@ -66,13 +76,14 @@ returns-clause-sums g c =
     let s = g.S.Semiring.arithmetic in
     let laws = g.met.S.Semiring.is_semiring in
     let r = c.requires in
-    let inv = c.loop-entry.invariant in
+    let inv = c.loop-n.invariant in
     let a = c.args.matrix.now in
     let x = c.args.vector.now in
-    let is = c.shape-2.ensures.matrix in
-    let es = c.entries-entries.ensures in
+    let is = c.shape.ensures.matrix in
+    let is_x = c.shape-2.ensures.matrix in
+    let numbers = c.column_numbers-columns.ensures in
+    let columns = c.column_numbers-columns.result.now in
     λ i l.
-    let sums : get_or c.loop-entry.sums i s.zero ≡ s.add (get_or c.args.sums.now i s.zero) (named_sum s a i c.entries-entries.result.now) =
-    all_columns_added s laws a c.shape.ensures.matrix c.entries-entries.result.now (rw es is.values) c.loop-entry.entry-index c.loop-entry.sums _ c.loop-entry-test.false inv.values inv.sums i (rw (inv.long, r.length) l) in
-    let named : named_sum s a i c.entries-entries.result.now ≡ at s (product s a x) i 0 = ap (named_sum s a i) es ∙ named_product s laws a x c.shape.ensures.matrix is r.agree r.column i l in
-    sums ∙ ap (s.add (get_or c.args.sums.now i s.zero)) named
+    let sums : get_or c.loop-n.sums i s.zero ≡ s.add (get_or c.args.sums.now i s.zero) (listed_sum s a x i columns) =
+    all_columns_added s laws a x is is_x columns c.loop-n.n c.loop-n.sums _ c.loop-n-test.false inv.values inv.sums i (rw (inv.long, r.length) l) in
+    sums ∙ ap (s.add (get_or c.args.sums.now i s.zero)) (listed_product s laws a x is is_x columns numbers.ascending numbers.inside numbers.all r.column i l)

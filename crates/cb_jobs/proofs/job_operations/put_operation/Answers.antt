@@ -1,4 +1,4 @@
-use Rattle.cb_job_output.proofs.WrittenAnswers.{unanswered, written}
+use Rattle.cb_job_output.proofs.WrittenAnswers.{written}
 use Rattle.cb_jobs.proofs.job_operations.put_operation.Goals as goal
 
 pub returns : goal.returns

@@ -2,12 +2,18 @@ use Rattle.std.proofs.Common.{rules, ◌≡◌, ◌∙◌, [], ◌∷◌, length
 use Rattle.cb_operations.specs.OperationAnswers.{answer_of}
 use Rattle.cb_shares.specs.Shares.{AreEnds}
 use Rattle.cb_panels.proofs.AnswerMatrices.{of_one_matrix}
-use Rattle.cb_panels.proofs.ResultColumns.{of_one_cols, all_ends}
+use Rattle.cb_panels.proofs.ResultColumns.{of_one_agree, of_one_cols, all_ends}
 use Rattle.cb_panels.proofs.operations.of_one.Goals as goal
 
-pub make_all-requires-clause-matrix : goal.make_all-requires-clause-matrix
-make_all-requires-clause-matrix g c κs within =
-    of_one_matrix g.S.Semiring.arithmetic (g.met.S.Semiring g.world.𝓛 g.world.𝓜 g.world.𝓡 ((λ s x. x), (λ x. x), (λ x. x), λ x. x)).is_semiring c.args.operation c.args.a.now c.shape.ensures.matrix
+pub make_all-requires-clause-operands : goal.make_all-requires-clause-operands
+make_all-requires-clause-operands g c κs within =
+    let s = g.S.Semiring.arithmetic in
+    let laws = (g.met.S.Semiring g.world.𝓛 g.world.𝓜 g.world.𝓡 ((λ s x. x), (λ x. x), (λ x. x), λ x. x)).is_semiring in
+    record {
+      count = sym c.requires;
+      suits = of_one_agree c.args.operation c.args.a.now c.requires;
+      matrix = of_one_matrix s laws c.args.operation c.args.a.now c.shape.ensures.matrix;
+    }
 
 pub make_all-requires-clause-all : goal.make_all-requires-clause-all
 make_all-requires-clause-all g c κs within =

@@ -6,13 +6,17 @@ use Rattle.cb_panels.proofs.AnswerMatrices.{of_three_matrix}
 use Rattle.cb_panels.proofs.ResultColumns.{of_three_cols, all_ends}
 use Rattle.cb_panels.proofs.operations.of_three.Goals as goal
 
-pub make_all-requires-clause-matrix : goal.make_all-requires-clause-matrix
-make_all-requires-clause-matrix g c κs within =
+pub make_all-requires-clause-operands : goal.make_all-requires-clause-operands
+make_all-requires-clause-operands g c κs within =
     let s = g.S.Semiring.arithmetic in
     let laws = (g.met.S.Semiring g.world.𝓛 g.world.𝓜 g.world.𝓡 ((λ s x. x), (λ x. x), (λ x. x), λ x. x)).is_semiring in
     let is_a = subst (λ (n : Sparse). IsMatrix s n) (c.block.ensures ∙ c.in_ok-left.ensures) c.shape.ensures.matrix in
     let is_b = subst (λ (n : Sparse). IsMatrix s n) (c.block-2.ensures ∙ c.in_ok-right.ensures) c.shape-2.ensures.matrix in
-    of_three_matrix s laws c.args.operation c.args.a.now c.args.b.now c.args.mask.now is_a is_b c.shape-3.ensures.matrix
+    record {
+      count = sym c.requires.count;
+      suits = c.requires.agree;
+      matrix = of_three_matrix s laws c.args.operation c.args.a.now c.args.b.now c.args.mask.now is_a is_b c.shape-3.ensures.matrix;
+    }
 
 pub make_all-requires-clause-all : goal.make_all-requires-clause-all
 make_all-requires-clause-all g c κs within =

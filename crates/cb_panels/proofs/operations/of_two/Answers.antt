@@ -5,9 +5,15 @@ use Rattle.cb_panels.proofs.AnswerMatrices.{of_two_matrix}
 use Rattle.cb_panels.proofs.ResultColumns.{of_two_cols, all_ends}
 use Rattle.cb_panels.proofs.operations.of_two.Goals as goal
 
-pub make_all-requires-clause-matrix : goal.make_all-requires-clause-matrix
-make_all-requires-clause-matrix g c κs within =
-    of_two_matrix g.S.Semiring.arithmetic (g.met.S.Semiring g.world.𝓛 g.world.𝓜 g.world.𝓡 ((λ s x. x), (λ x. x), (λ x. x), λ x. x)).is_semiring c.args.operation c.args.a.now c.args.b.now c.shape.ensures.matrix c.shape-then-is_by_columns.ensures.matrix
+pub make_all-requires-clause-operands : goal.make_all-requires-clause-operands
+make_all-requires-clause-operands g c κs within =
+    let s = g.S.Semiring.arithmetic in
+    let laws = (g.met.S.Semiring g.world.𝓛 g.world.𝓜 g.world.𝓡 ((λ s x. x), (λ x. x), (λ x. x), λ x. x)).is_semiring in
+    record {
+      count = sym c.requires.count;
+      suits = c.requires.agree;
+      matrix = of_two_matrix s laws c.args.operation c.args.a.now c.args.b.now c.shape.ensures.matrix c.shape-then-is_by_columns.ensures.matrix;
+    }
 
 pub make_all-requires-clause-all : goal.make_all-requires-clause-all
 make_all-requires-clause-all g c κs within =

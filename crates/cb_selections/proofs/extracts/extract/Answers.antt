@@ -1,26 +1,22 @@
-use Rattle.std.proofs.Common.{◌≡◌, length, ap, ◌∙◌}
+use Rattle.std.proofs.Common.{◌≡◌, sym, ◌∙◌}
+use Rattle.std.specs.Prelude.{option_copied}
 use Rattle.std.proofs.lemmas.Result.{IfOk-weaker}
-use Rattle.cb_matrix.specs.Sparse.{Extent}
-use Rattle.cb_selections.specs.Extracted.{extracted, rows_by}
-use Rattle.cb_selections.proofs.ListedRows.{all_listed}
-use Rattle.cb_selections.proofs.ExtractedColumns.{extracted_is}
+use Rattle.cb_selections.specs.Extracted.{extracted_by, rows_by, columns_by}
+use Rattle.cb_selections.proofs.ExtractedColumns.{columns_of_all, rows_of_all}
 use Rattle.cb_selections.proofs.extracts.extract.Goals as goal
 
-pub returns : goal.returns
-returns g c =
+pub returns-in-Some-None : goal.returns-in-Some-None
+returns-in-Some-None g c =
     let s = g.S.Semiring.arithmetic in
     let a = c.args.block.now in
-    let rows = c.args.rows.now in
-    let cols = c.args.cols.now in
-    IfOk-weaker c.some_rows.result (λ m. m ≡ rows_by s rows c.in_ok-some.some) (λ m. m ≡ extracted s rows cols a)
-    (λ m is. is ∙ ap (rows_by s rows) c.in_ok-some.ensures ∙ extracted_is s a rows cols c.requires.rows) c.some_rows.ensures
+    let rows = c.in-Some-None.rows.now in
+    IfOk-weaker c.extract_rows.result (λ m. m ≡ rows_by s rows a) (λ m. m ≡ extracted_by s (option_copied c.args.rows) (option_copied c.args.cols) a)
+    (λ m is. is ∙ rows_of_all s a rows ∙ sym (λ i. extracted_by s (option_copied (c.in-Some-None.is-0 i)) (option_copied (c.in-Some-None.is-1 i)) a)) c.extract_rows.ensures
 
-pub returns-then-are_all : goal.returns-then-are_all
-returns-then-are_all g c =
+pub returns-in-None-Some : goal.returns-in-None-Some
+returns-in-None-Some g c =
     let s = g.S.Semiring.arithmetic in
     let a = c.args.block.now in
-    let rows = c.args.rows.now in
-    let some = c.in_ok-some.some in
-    let all : length rows ≡ some.shape.rows = c.are_all.ensures.count c.if-are_all.true ∙ c.rows.ensures.value ∙ ap (λ (x : Extent). x.rows) c.shape.ensures.shape in
-    all_listed s some c.shape.ensures.matrix rows g.met.S.Semiring.is_semiring all (c.are_all.ensures.order c.if-are_all.true)
-    ∙ ap (rows_by s rows) c.in_ok-some.ensures ∙ extracted_is s a rows c.args.cols.now c.requires.rows
+    let cols = c.in-None-Some.cols.now in
+    IfOk-weaker c.extract_columns.result (λ m. m ≡ columns_by s cols a) (λ m. m ≡ extracted_by s (option_copied c.args.rows) (option_copied c.args.cols) a)
+    (λ m is. is ∙ columns_of_all s a cols ∙ sym (λ i. extracted_by s (option_copied (c.in-None-Some.is-0 i)) (option_copied (c.in-None-Some.is-1 i)) a)) c.extract_columns.ensures

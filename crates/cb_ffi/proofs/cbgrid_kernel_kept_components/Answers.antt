@@ -1,5 +1,0 @@
-use Rattle.cb_ffi.proofs.KeptCalls.{kept_call_of}
-use Rattle.cb_ffi.proofs.cbgrid_kernel_kept_components.Goals as goal
-
-pub returns : goal.returns
-returns c = rw (← c.borrowed.ensures) (kept_call_of _ _ _ _ _ _ c.kept_components-answer.ensures c.put_kept.ensures.ok c.put_kept.ensures.refused)
