@@ -1,11 +1,11 @@
 //! From the blocks of a matrix to panels of whole columns.
-ghost use Rattle.std.specs.Prelude.{◌≡◌, ◌<◌, ◌*◌, ◌/◌, ◌%◌, [], ◌∷◌, flat_map, IfOk, OnOk};
+ghost use Rattle.std.specs.Prelude.{◌≡◌, ◌<◌, ◌+◌, ◌*◌, ◌/◌, ◌%◌, [], ◌∷◌, flat_map, IfOk, OnOk};
 ghost use Rattle.std.specs.List.{range_with_len};
 ghost use Rattle.cb_grid.specs.Pieces.{piece_start};
 ghost use Rattle.cb_plan_parts.specs.Growth.{Grew};
 ghost use Rattle.cb_plan_parts.specs.PlanParts.{operand_starts};
 ghost use Rattle.cb_plan_operations.specs.VectorPlans.{works, each_works};
-ghost use Rattle.cb_plan_transfers.specs.Panels.{IsPanelsPlan, block_cuts, cuts_at, column_rounds, joined_parts, joined_at};
+ghost use Rattle.cb_plan_transfers.specs.Panels.{IsPanelsPlan, block_cuts, cuts_at, column_rounds, joined_parts, joined_at, panels_acts};
 
 use crate::rounds::exchange_in_rounds;
 use crate::starts::checked;
@@ -123,7 +123,8 @@ pub fn panels_plan(
 ) -> Result<(CheckedPlan, u16), PlanFault>
     ensures ranks { IfOk result (λ planned. planned.0.ranks ≡ grid.now.side * grid.now.side) }
     ensures starts { IfOk result (λ planned. planned.0.starts ≡ operand_starts grid.now.side (record { slot = 0; shape = shape } ∷ [])) }
-    ensures slot { IfOk result (λ planned. planned.1 < SLOTS) }
+    ensures acts { IfOk result (λ planned. planned.0.acts ≡ panels_acts grid.now.side shape) }
+    ensures slot { IfOk result (λ planned. (planned.1 ≡ 1 + grid.now.side) × (planned.1 < SLOTS)) }
     ensures panels { IfOk result (λ planned. IsPanelsPlan planned.0.acts grid.now.side shape planned.1) }
 {
     let starts = operand_starts(alloc, grid, &[Operand { slot: 0, shape }])?;

@@ -2,7 +2,7 @@
 ghost use Rattle.std.specs.Prelude.{◌≡◌, ◌<◌, ◌+◌, ◌*◌, IfOk, OnOk};
 ghost use Rattle.cb_plan_parts.specs.Growth.{Grew};
 ghost use Rattle.cb_plan_operations.specs.VectorPlans.{works, each_works};
-ghost use Rattle.cb_plan_transfers.specs.Pieces.{IsPiecesPlan, all_ranks, piece_cuts, received_sums};
+ghost use Rattle.cb_plan_transfers.specs.Pieces.{IsPiecesPlan, all_ranks, piece_cuts, pieces_acts, received_sums};
 ghost use Rattle.cb_plan_transfers.specs.WholeStarts.{all_whole};
 
 use crate::rounds::exchange_in_rounds;
@@ -80,7 +80,8 @@ pub fn pieces_plan(
 ) -> Result<(CheckedPlan, u16), PlanFault>
     ensures ranks { IfOk result (λ planned. planned.0.ranks ≡ grid.now.side * grid.now.side) }
     ensures starts { IfOk result (λ planned. planned.0.starts ≡ all_whole grid.now.side shape) }
-    ensures slot { IfOk result (λ planned. planned.1 < SLOTS) }
+    ensures acts { IfOk result (λ planned. planned.0.acts ≡ pieces_acts grid.now.side shape) }
+    ensures slot { IfOk result (λ planned. (planned.1 ≡ 1 + grid.now.side * grid.now.side) × (planned.1 < SLOTS)) }
     ensures parts { IfOk result (λ planned. IsPiecesPlan planned.0.acts grid.now.side shape planned.1) }
 {
     let ranks = grid.ranks();

@@ -9,6 +9,7 @@ use Rattle.cb_semirings.specs.Arithmetic.{Arithmetic}
 use Rattle.cb_matrix.specs.Sparse.{Sparse, Extent}
 use Rattle.cb_plan.specs.declared.stores.Slot.{Slot}
 use Rattle.cb_plan.specs.declared.stores.Slot.TheVariants as slot_is
+use Rattle.cb_plan.specs.PlanTables.{cell}
 use Rattle.cb_plan.proofs.Effects.{split}
 use Rattle.cb_plan_slots.specs.Slots.{HasOperands, block_of_rank, slot_with}
 use Rattle.cb_operations.specs.OperationAnswers.{shapes_in}
@@ -90,6 +91,13 @@ put_slots_size ps = put_size ps no_slots (length-replicate 256 blank)
 -- and this is in each of them
 pub put_slots_at : (ps : List (ℕ × Sparse)) (k : ℕ) → Exist ps → slot_at (put_all no_slots ps) k ≡ put_at ps k slot_is.Empty
 put_slots_at ps k e = all_put ps no_slots k (length-replicate 256 blank) e ∙ ap (put_at ps k) (blank_at 256 k)
+
+-- so they are the slots of a rank that has these blocks there, and nothing else
+pub row_of_blocks : (ps : List (ℕ × Sparse)) (first : List (List (Slot Sparse))) (me : ℕ) → Exist ps → length (get_or first me []) ≡ 256
+    → ((k : ℕ) → put_at ps k slot_is.Empty ≡ cell slot_is.Empty first me k) → put_all no_slots ps ≡ get_or first me []
+row_of_blocks ps first me e wide same =
+    ext_get_or slot_is.Empty (put_all no_slots ps) (get_or first me []) (put_slots_size ps ∙ sym wide)
+    (λ k _. put_slots_at ps k e ∙ same k)
 
 slots_size : (x : ProcessView) (n : ℕ) → length (operand_slots x n) ≡ 256
 slots_size x n = ap length (slots_are x n) ∙ put_slots_size (operands_in x n)

@@ -1,8 +1,8 @@
 -- How a process begins an operation on the matrices in its first registers, or to bring a matrix into the order of its text.
-use Rattle.std.specs.Prelude.{◌≡◌, ◌<◌, ℕ, zero, suc, ◌*◌, ◌/◌, ◌%◌, List, [], ◌∷◌, length, map, get_or, slice_set, Option, Some, None, IsSome}
+use Rattle.std.specs.Prelude.{◌≡◌, ◌<◌, ℕ, zero, suc, ◌+◌, ◌*◌, ◌/◌, ◌%◌, List, [], ◌∷◌, length, map, get_or, slice_set, All, Option, Some, None, IsSome}
 use Rattle.std.specs.List.{range_with_len}
 use Rattle.cb_semirings.specs.Arithmetic.{Arithmetic}
-use Rattle.cb_matrix.specs.Sparse.{Sparse, Extent}
+use Rattle.cb_matrix.specs.Sparse.{Sparse, Extent, IsMatrix}
 use Rattle.cb_matrix.specs.Values.{empty_matrix}
 use Rattle.cb_grid.specs.Parts.{part_shape}
 use Rattle.cb_plan.specs.declared.plans.Planned.{Planned}
@@ -11,12 +11,14 @@ use Rattle.cb_plan.specs.declared.stores.Slot.TheVariants as slot_is
 use Rattle.cb_plan.specs.Plans.{CheckedView}
 use Rattle.cb_plan_parts.specs.PlanParts.{operand_starts}
 use Rattle.cb_plan_slots.specs.Slots.{HasOperands, block_of_rank}
+use Rattle.cb_plan_transfers.specs.Panels.{IsPanelsPlan, panel_of, panels_acts}
 use Rattle.cb_operations.specs.declared.operations.Operation.{Operation}
-use Rattle.cb_operations.specs.OperationAnswers.{Agree, matrix_at, operand_count_of, shape_of, shapes_in}
+use Rattle.cb_operations.specs.OperationAnswers.{Agree, answer_of, matrix_at, operand_count_of, shape_of, shapes_in}
 use Rattle.cb_planner.specs.OperationPlans.{Computes, placed_operands}
 use Rattle.cb_rank_process.specs.declared.faults.ProcessFault.{ProcessFault}
 use Rattle.cb_rank_process.specs.declared.faults.ProcessFault.TheVariants as fault_is
 use Rattle.cb_rank_process.specs.Processes.{KeptView, TaskView, ProcessView, IsFree, Starts, given_up, no_slots, register_at, with_registers}
+use Rattle.cb_rank_process.specs.Results.{BeginsToBring}
 
 -- the block of a kept matrix, or one of 0 by 0 if there is none
 abbrev pub block_in : Option KeptView → Sparse
@@ -103,6 +105,16 @@ pub record IsOperationOn (s : Arithmetic) (operation : Operation) (ms : List Spa
 abbrev pub OperatesOn : Arithmetic → Operation → ProcessView → ProcessView → Type 0
 OperatesOn s operation x y = (ms : List Sparse) → length ms ≡ operand_count_of operation → HoldsBlocks s ms x → IsOperationOn s operation ms x y
 
+-- a rank's block of the answer of an operation on these matrices
+abbrev pub answer_block : Arithmetic → ℕ → Operation → List Sparse → ℕ → Sparse
+answer_block s q operation ms r = block_of_rank s q (answer_of operation s ms) r
+
+-- and it brings each rank its block of the answer, if the ranks begin with their blocks of these matrices
+abbrev pub BringsAnswer : Arithmetic → Operation → ProcessView → ProcessView → Type 0
+BringsAnswer s operation x y =
+    (ms : List Sparse) → length ms ≡ operand_count_of operation → All (IsMatrix s) ms → HoldsBlocks s ms x
+    → BeginsToBring s (HasOperands s x.side (placed_operands ms)) (shape_of operation (shapes_in ms)) (answer_block s x.side operation ms) x y
+
 -- why the first so many registers have no operands
 abbrev pub IsLack : ProcessView → ℕ → ProcessFault → Type 0
 IsLack x n fault_is.Absent = HaveMatrices x n → ⊥
@@ -119,17 +131,36 @@ IsOperateFault operation x fault_is.Shapes =
 IsOperateFault operation x fault_is.Memory = IsFree x
 IsOperateFault operation x fault = ⊥
 
--- A process begins a plan of all ranks of its grid, each of which begins with its part of a matrix in slot 0: it has its block of
--- the matrix in a register there, and nothing else, and the register gives it up.
+-- The plan for writing a matrix of this shape, on a grid of this side: all ranks begin with their blocks of the matrix, in slot 0,
+-- and the plan leaves in a slot of each its panel of the matrix. It is the same plan for all ranks.
+pub record IsPanelsPlanOf (q : ℕ) (shape : Extent) (plan : CheckedView) (slot : ℕ) : Type 0 where
+  pub ranks : plan.ranks ≡ q * q
+  pub starts : plan.starts ≡ operand_starts q (record { slot = 0; shape = shape } ∷ [])
+  pub acts : plan.acts ≡ panels_acts q shape
+  pub slot_is : slot ≡ 1 + q
+  pub panels : IsPanelsPlan plan.acts q shape slot
+
+-- A process begins a plan that leaves each rank its panel of a matrix: it has its block of the matrix in a register in slot 0, and
+-- nothing else, and the register gives it up.
 pub record Gathers (register : ℕ) (x y : ProcessView) : Type 0 where
   pub free : IsFree x
   pub kept : KeptView
   pub was : register_at x register ≡ Some kept
   pub plan : CheckedView
   pub slot : ℕ
-  pub ranks : plan.ranks ≡ x.side * x.side
-  pub parts : plan.starts ≡ operand_starts x.side (record { slot = 0; shape = kept.shape } ∷ [])
+  pub plan_is : IsPanelsPlanOf x.side kept.shape plan slot
   pub starts : Starts plan slot kept.shape (slot_from x register 0 no_slots) (with_registers x (given_up register x.registers)) y
+
+-- the panel of rank r
+abbrev pub panel_of_rank : Arithmetic → ℕ → Sparse → ℕ → Sparse
+panel_of_rank s q m r = panel_of s q m (r / q) (r % q)
+
+-- whatever matrix it is whose block the register has: what was begun brings each rank its panel of it, if the ranks begin with
+-- their blocks of it
+abbrev pub BringsPanels : Arithmetic → ℕ → ProcessView → ProcessView → Type 0
+BringsPanels s register x y =
+    (m : Sparse) → IsMatrix s m → register_at x register ≡ Some (record { shape = m.shape; block = block_of_rank s x.side m x.me })
+    → BeginsToBring s (HasOperands s x.side ((0, m) ∷ [])) m.shape (panel_of_rank s x.side m) x y
 
 -- why that isn't begun: another call is next; the register has no matrix, or no block of this rank's part of it; or memory was
 -- refused

@@ -1,40 +1,42 @@
 -- What a process keeps when a plan ends.
-use Rattle.std.specs.Prelude.{◌≡◌, ℕ, List, All, slice_set, Some, None, Ok}
+use Rattle.std.specs.Prelude.{◌≡◌, ◌≢◌, ◌<◌, ℕ, List, [], get_or, slice_set, Some, None, Ok}
+use mathlib.Core.List.{IsPrefix}
 use Rattle.cb_semirings.specs.Arithmetic.{Arithmetic}
-use Rattle.cb_matrix.specs.Sparse.{Sparse, IsMatrix}
-use Rattle.cb_plan.specs.declared.stores.Slot.{Slot}
-use Rattle.cb_rank.specs.Halves.{Course}
-use Rattle.cb_plan_slots.specs.Slots.{block_of_rank}
-use Rattle.cb_operations.specs.declared.operations.Operation.{Operation}
-use Rattle.cb_operations.specs.OperationAnswers.{answer_of, shapes_in}
-use Rattle.cb_planner.specs.OperationPlans.{placed_operands}
-use Rattle.cb_rank_driven.specs.Joined.{AreOfOneRun, IsLeft, IsOneOf, WasRefused}
+use Rattle.cb_matrix.specs.Sparse.{Sparse}
+use Rattle.cb_plan.specs.Plans.{CheckedView}
+use Rattle.cb_plan.specs.Programs.{project}
+use Rattle.cb_rank.specs.Halves.{Course, RunsTo}
+use Rattle.cb_rank_runs.specs.Runs.{fresh}
+use Rattle.cb_rank_driven.specs.Joined.{IsLeft, IsOneOf, WasRefused}
 use Rattle.cb_rank_process.specs.declared.faults.ProcessFault.{ProcessFault}
 use Rattle.cb_rank_process.specs.declared.faults.ProcessFault.TheVariants as fault_is
 use Rattle.cb_rank_process.specs.Processes.{KeptView, TaskView, ProcessView}
-use Rattle.cb_rank_process.specs.Begun.{IsPlanOf}
+use Rattle.cb_rank_process.specs.Results.{Brings, Stores}
 
 -- the block that the plan left is in this register, and there is no plan any more
 abbrev pub with_kept : ProcessView → ℕ → KeptView → ProcessView
 with_kept x register kept =
     record { side = x.side; me = x.me; registers = slice_set x.registers register (Some kept); task = None; unsent = x.unsent }
 
--- The plan computes an operation. Each process of the grid began it with its blocks of these matrices, and did its own part of
--- it; and of the letters on each lane those taken are the first of those posted. Nothing else is trusted of the other
--- processes, and of what carried the letters.
-pub record IsOneRun (s : Arithmetic) (operation : Operation) (ms : List Sparse) (first : List (List (Slot Sparse))) (courses : ℕ → Course) (x : ProcessView) (task : TaskView) : Type 0 where
-  pub matrices : All (IsMatrix s) ms
-  pub plan : IsPlanOf operation x.side (shapes_in ms) task.rank.rank.plan task.slot
-  pub run : AreOfOneRun s x.side (placed_operands ms) task.rank.rank.plan first courses
+-- A joint run of a plan: each rank did its own program by itself, from these first slots; and on each lane the letters taken are the
+-- first of those posted. Nothing else is trusted of the other processes, and of what carried the letters.
+pub record IsJointRun (s : Arithmetic) (plan : CheckedView) (first : Stores) (courses : ℕ → Course) : Type 0 where
+  pub ran : (r : ℕ) → r < plan.ranks → RunsTo s r (project plan.starts plan.acts r) (fresh (get_or first r [])) (courses r)
+  pub order : (from to : ℕ) → from < plan.ranks → to < plan.ranks → from ≢ to → IsPrefix ((courses to).taken from) ((courses from).posted to)
+
+-- The processes of a grid did a plan in a joint run, of which this task is one rank's part; and from the slots with which they began, the
+-- plan brings each its part of a result.
+pub record IsOneRun (s : Arithmetic) (part : ℕ → Sparse) (first : Stores) (courses : ℕ → Course) (task : TaskView) : Type 0 where
+  pub brings : Brings s task.rank.rank.plan task.slot first part
+  pub run : IsJointRun s task.rank.rank.plan first courses
   pub one : IsOneOf task.rank first courses
 
--- a block is this process's block of the answer, whatever operation it was, and on whatever matrices
+-- a block is this process's part of the result, whatever result the plan brings, and from whatever slots
 abbrev pub IsPartOf : Arithmetic → ProcessView → TaskView → Sparse → Type 0
 IsPartOf s x task block =
-    (operation : Operation) (ms : List Sparse) (first : List (List (Slot Sparse))) (courses : ℕ → Course)
-    → IsOneRun s operation ms first courses x task → block ≡ block_of_rank s x.side (answer_of operation s ms) x.me
+    (part : ℕ → Sparse) (first : Stores) (courses : ℕ → Course) → IsOneRun s part first courses task → block ≡ part x.me
 
--- a process keeps the block that its rank leaves, which is its block of the answer
+-- a process keeps the block that its rank leaves, which is its part of the result
 pub record Keeps (s : Arithmetic) (x : ProcessView) (register : ℕ) (y : ProcessView) : Type 0 where
   pub task : TaskView
   pub block : Sparse
@@ -46,6 +48,6 @@ pub record Keeps (s : Arithmetic) (x : ProcessView) (register : ℕ) (y : Proces
 -- a fault names a rank that was refused memory, if it says that the block was lost
 abbrev pub IsEndFault : Arithmetic → ProcessView → ProcessFault → Type 0
 IsEndFault s x (fault_is.Lost origin) =
-    (operation : Operation) (ms : List Sparse) (first : List (List (Slot Sparse))) (courses : ℕ → Course) (task : TaskView)
-    → x.task ≡ Some task → IsOneRun s operation ms first courses x task → WasRefused task.rank.rank.plan courses origin
+    (part : ℕ → Sparse) (first : Stores) (courses : ℕ → Course) (task : TaskView)
+    → x.task ≡ Some task → IsOneRun s part first courses task → WasRefused task.rank.rank.plan courses origin
 IsEndFault s x fault = Unit {0}

@@ -1,8 +1,9 @@
 -- How a process reads a piece of a text, and writes its part of one.
-use Rattle.std.specs.Prelude.{◌≡◌, ℕ, ◌*◌, List, ◌++◌, length, slice_set, flat_map, Some}
+use Rattle.std.specs.Prelude.{◌≡◌, ◌<◌, ℕ, ◌+◌, ◌*◌, List, ◌++◌, length, map, slice_set, flat_map, Some}
+use Rattle.std.specs.List.{range_with_len}
 use Rattle.cb_semirings.specs.Arithmetic.{Arithmetic}
 use Rattle.cb_matrix.specs.declared.Entry.{Entry}
-use Rattle.cb_matrix.specs.Sparse.{Extent, Sparse}
+use Rattle.cb_matrix.specs.Sparse.{Extent, Sparse, IsMatrix}
 use Rattle.cb_matrix.specs.Values.{collected}
 use Rattle.cb_market_lines.specs.declared.header.Header.{Header}
 use Rattle.cb_market_lines.specs.declared.size.Size.{Size}
@@ -11,11 +12,15 @@ use Rattle.cb_market_pages.specs.Sheets.{lines_of}
 use Rattle.cb_market_pages.specs.Text.{head_of, text_of}
 use Rattle.cb_plan.specs.declared.stores.Slot.TheVariants as slot_is
 use Rattle.cb_plan.specs.Plans.{CheckedView}
+use Rattle.cb_plan_slots.specs.Slots.{block_of_rank}
+use Rattle.cb_plan_transfers.specs.Panels.{panel_of}
+use Rattle.cb_plan_transfers.specs.Pieces.{IsPiece, IsPiecesPlan, pieces_acts, sum_of_pieces}
 use Rattle.cb_plan_transfers.specs.WholeStarts.{all_whole}
 use Rattle.cb_rank_process.specs.declared.faults.ProcessFault.{ProcessFault}
 use Rattle.cb_rank_process.specs.declared.faults.ProcessFault.TheVariants as fault_is
 use Rattle.cb_rank_process.specs.declared.texts.LineCounts.{LineCounts}
 use Rattle.cb_rank_process.specs.Processes.{KeptView, ProcessView, IsFree, Starts, given_up, no_slots, register_at, with_registers}
+use Rattle.cb_rank_process.specs.Results.{BeginsToBring, HavePieces}
 
 -- A block has the entries of some lines of a text that begins in this way, in the shape of the whole matrix; and so many lines
 -- have one, of so many that are announced.
@@ -31,17 +36,38 @@ pub record IsPieceOf (s : Arithmetic) (opening piece : List ℕ) (block : Sparse
   pub lines : counts.lines ≡ part.lines
   pub announced : counts.announced ≡ size.count
 
--- A process begins a plan of all ranks of its grid, each of which begins with a block of the whole shape in slot 0: it has a
--- piece of a text there, and nothing else.
-pub record BeginsReading (s : Arithmetic) (opening piece : List ℕ) (counts : LineCounts) (x y : ProcessView) : Type 0 where
+-- The plan for reading a matrix of this shape, on a grid of this side: all ranks begin with pieces of the matrix, in slot 0, and the
+-- plan leaves in a slot of each its block of the sum of the pieces. It is the same plan for all ranks.
+pub record IsPiecesPlanOf (q : ℕ) (shape : Extent) (plan : CheckedView) (slot : ℕ) : Type 0 where
+  pub ranks : plan.ranks ≡ q * q
+  pub starts : plan.starts ≡ all_whole q shape
+  pub acts : plan.acts ≡ pieces_acts q shape
+  pub slot_is : slot ≡ 1 + q * q
+  pub parts : IsPiecesPlan plan.acts q shape slot
+
+-- a rank's block of the sum of the pieces of all ranks, matrices of this shape
+abbrev pub sum_block : Arithmetic → ℕ → Extent → (ℕ → Sparse) → ℕ → Sparse
+sum_block s q shape pieces r = block_of_rank s q (sum_of_pieces s (q * q) shape pieces) r
+
+-- Whatever pieces the other ranks have: what a process with this piece began brings each rank its block of the sum of all pieces, if
+-- the ranks begin with them.
+abbrev pub BringsSum : Arithmetic → Sparse → ProcessView → ProcessView → Type 0
+BringsSum s piece x y =
+    (pieces : ℕ → Sparse) → pieces x.me ≡ piece
+    → BeginsToBring s (HavePieces s x.side piece.shape pieces) piece.shape (sum_block s x.side piece.shape pieces) x y
+
+-- A process over a semiring, which reads texts over its base, begins a plan that leaves each rank its block of the sum of all
+-- pieces: it has a piece of a text in slot 0, a matrix of the whole shape, and nothing else.
+pub record BeginsReading (s base : Arithmetic) (opening piece : List ℕ) (counts : LineCounts) (x y : ProcessView) : Type 0 where
   pub free : IsFree x
   pub block : Sparse
-  pub piece_is : IsPieceOf s opening piece block counts
+  pub piece_is : IsPieceOf base opening piece block counts
+  pub matrix : IsPiece s block.shape block
   pub plan : CheckedView
   pub slot : ℕ
-  pub ranks : plan.ranks ≡ x.side * x.side
-  pub whole : plan.starts ≡ all_whole x.side block.shape
+  pub plan_is : IsPiecesPlanOf x.side block.shape plan slot
   pub starts : Starts plan slot block.shape (slice_set no_slots 0 (slot_is.Sheet block)) x y
+  pub brings : BringsSum s block x y
 
 -- why a piece of a text isn't read
 abbrev pub IsReadFault : ProcessView → ProcessFault → Type 0
@@ -64,12 +90,23 @@ BeginsTexts s shape count head =
     (m : Sparse) (parts : List (List Entry)) → m.shape ≡ shape → length m.entries ≡ count → flat_map (λ part. part) parts ≡ m.entries
     → head ++ flat_map (lines_of s) parts ≡ text_of s m
 
+-- the entries of the panels of a matrix, by column of the grid, and in it by row
+abbrev pub panel_entries : Arithmetic → ℕ → Sparse → List (List Entry)
+panel_entries s q m = flat_map (λ j. map (λ i. (panel_of s q m i j).entries) (range_with_len 0 q)) (range_with_len 0 q)
+
+-- Whatever matrix of this shape has this many entries: the head, with the lines of its panels after it, by column of the grid, and
+-- in it by row, is the matrix's text.
+abbrev pub BeginsPanels : Arithmetic → ℕ → Extent → ℕ → List ℕ → Type 0
+BeginsPanels s q shape count head =
+    (m : Sparse) → IsMatrix s m → m.shape ≡ shape → length m.entries ≡ count → 0 < q → head ++ flat_map (lines_of s) (panel_entries s q m) ≡ text_of s m
+
 -- the head of the text of the matrix in a register, if that has so many entries in all
 pub record HasHead (s : Arithmetic) (x : ProcessView) (register entries : ℕ) (head : List ℕ) : Type 0 where
   pub kept : KeptView
   pub was : register_at x register ≡ Some kept
   pub head_is : head ≡ head_of s.writes_pattern kept.shape entries
   pub begins : BeginsTexts s kept.shape entries head
+  pub panels : BeginsPanels s x.side kept.shape entries head
 
 -- a process writes the lines of the entries that it has of the matrix in a register, which gives them up
 pub record WritesLines (s : Arithmetic) (register : ℕ) (x : ProcessView) (text : List ℕ) (y : ProcessView) : Type 0 where

@@ -1,7 +1,7 @@
 //! Operations on the matrices of all processes of a grid.
 ghost use Rattle.std.specs.Prelude.{◌≡◌, ◌≤◌, length, IfOk, IfErr, OnOk, OnErr};
 ghost use Rattle.cb_operations.specs.OperationAnswers.{operand_count_of};
-ghost use Rattle.cb_rank_process.specs.Begun.{HaveMatrices, IsGatherFault, IsLack, IsOperateFault, Gathers, Operates, OperatesOn, operand_shapes, operand_slots};
+ghost use Rattle.cb_rank_process.specs.Begun.{BringsAnswer, BringsPanels, HaveMatrices, IsGatherFault, IsLack, IsOperateFault, Gathers, Operates, OperatesOn, operand_shapes, operand_slots};
 
 use crate::faults::ProcessFault;
 use crate::processes::Process;
@@ -60,6 +60,7 @@ impl<S: Semiring> Process<S> {
     pub fn operate(&mut self, alloc: Global, operation: Operation) -> Result<(), ProcessFault>
         ensures begins { OnOk result (Operates operation self.old self.new) }
         ensures on { OnOk result (OperatesOn S.arithmetic operation self.old self.new) }
+        ensures brings { OnOk result (BringsAnswer S.arithmetic operation self.old self.new) }
         ensures fault { IfErr result (IsOperateFault operation self.old) }
         ensures unchanged { OnErr result (self.new ≡ self.old) }
     {
@@ -80,11 +81,13 @@ impl<S: Semiring> Process<S> {
     }
 
     /// Begins to bring a matrix into the order of its text: in the end each process has some whole columns of it, in the shape
-    /// of the matrix. By column of the grid, and in it by row, these are the matrix from left to right.
+    /// of the matrix. By column of the grid, and in it by row, these are the matrix from left to right. [`Process::end`] then
+    /// keeps this process's panel of the matrix.
     ///
     /// The register gives up its matrix. Refused, nothing changes.
     pub fn gather_columns(&mut self, alloc: Global, register: u32) -> Result<(), ProcessFault>
         ensures begins { OnOk result (Gathers register self.old self.new) }
+        ensures brings { OnOk result (BringsPanels S.arithmetic register self.old self.new) }
         ensures fault { IfErr result (IsGatherFault register self.old) }
         ensures unchanged { OnErr result (self.new ≡ self.old) }
     {

@@ -132,9 +132,10 @@ impl<S: Semiring> Process<S> {
 
     /// Ends the plan, if all its halves are done, and keeps the block that it leaves in a register.
     ///
-    /// If the plan computes an operation that all processes of the grid began on their blocks of some matrices, each did its own
-    /// part, and on each lane the letters taken are the first of those posted, then that is this process's block of the
-    /// operation's answer, or else a rank is named that was refused memory.
+    /// If the plan brings each process of the grid its part of a result, from what they began with, each did its own part of the
+    /// plan, and on each lane the letters taken are the first of those posted, then that is this process's part of the result, or
+    /// else a rank is named that was refused memory. The result is an operation's answer, of which each gets its block; the sum of
+    /// the pieces of a matrix that they read, likewise; or a matrix, of which each gets its panel.
     pub fn end(&mut self, register: u32) -> Result<(), ProcessFault>
         ensures keeps { OnOk result (Keeps S.arithmetic self.old register self.new) }
         ensures lost { IfErr result (IsEndFault S.arithmetic self.old) }
@@ -146,6 +147,7 @@ impl<S: Semiring> Process<S> {
             return Err(ProcessFault::NotNow);
         };
         let Task { rank, slot, shape } = task;
+        let _next = rank.want();
         match rank.finish(slot) {
             Ok(block) => {
                 let block = SharedBlock::new(block);

@@ -143,7 +143,7 @@ impl<S: Based> Process<S> {
         opening: &[u8],
         piece: &[u8],
     ) -> Result<LineCounts, ProcessFault>
-        ensures begins { IfOk result (λ counts. BeginsReading S.Base.arithmetic opening.now piece.now counts self.old self.new) }
+        ensures begins { IfOk result (λ counts. BeginsReading S.arithmetic S.Base.arithmetic opening.now piece.now counts self.old self.new) }
         ensures fault { IfErr result (IsReadFault self.old) }
         ensures unchanged { OnErr result (self.new ≡ self.old) }
     {

@@ -18,8 +18,8 @@ checked-requires-clause-ranks c =
     ∙ c.new-plan.ensures.ranks
     ∙ c.ranks.ensures.value
 
-pub returns-clause-panels : goal.returns-clause-panels
-returns-clause-panels c =
+pub returns-clause-acts : goal.returns-clause-acts
+returns-clause-acts c =
     let q = c.args.grid.now.side in
     let shape = c.args.shape in
     let n = c.ranks.ensures.value in
@@ -31,5 +31,11 @@ returns-clause-panels c =
     let ranks : c.join_all.new.plan.ranks ≡ q * q = whole.ranks_are ∙ c.new-plan.ensures.ranks ∙ n in
     let all = grew_all (cuts ++ (sent ++ joins)) c.new-plan.result c.join_all.new.plan c.new-plan.ensures.acts whole in
     let acts : c.shut_all.new.plan.acts ≡ panels_acts q shape = c.in_ok-shut_all.ensures.acts ∙ (λ z. all z ++ shut_acts (ranks z)) in
-    subst (λ (xs : List Act). IsPanelsPlan xs q shape (1 + c.side.result)) (sym (c.in_ok-plan.ensures.acts ∙ acts))
-    (subst (λ k. IsPanelsPlan (panels_acts q shape) q shape (1 + k)) (sym c.side.ensures.value) (is_panels_plan q (side_above _ _ n c.ranks.ensures.some) shape))
+    c.in_ok-plan.ensures.acts ∙ acts
+
+pub returns-clause-panels : goal.returns-clause-panels
+returns-clause-panels c =
+    let q = c.args.grid.now.side in
+    let shape = c.args.shape in
+    subst (λ (xs : List Act). IsPanelsPlan xs q shape (1 + c.side.result)) (sym (returns-clause-acts c))
+    (subst (λ k. IsPanelsPlan (panels_acts q shape) q shape (1 + k)) (sym c.side.ensures.value) (is_panels_plan q (side_above _ _ c.ranks.ensures.value c.ranks.ensures.some) shape))

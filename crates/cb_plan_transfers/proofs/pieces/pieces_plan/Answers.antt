@@ -29,8 +29,8 @@ checked-requires-clause-ranks c =
     ∙ c.new-plan.ensures.ranks
     ∙ c.ranks-ranks.ensures.value
 
-pub returns-clause-parts : goal.returns-clause-parts
-returns-clause-parts c =
+pub returns-clause-acts : goal.returns-clause-acts
+returns-clause-acts c =
     let q = c.args.grid.now.side in
     let shape = c.args.shape in
     let n : c.ranks-ranks.result ≡ q * q = c.ranks-ranks.ensures.value in
@@ -45,7 +45,13 @@ returns-clause-parts c =
     let ranks : c.add_parts.new.plan.ranks ≡ q * q = whole.ranks_are ∙ c.new-plan.ensures.ranks ∙ n in
     let all = grew_all (cuts ++ (sent ++ adds)) c.new-plan.result c.add_parts.new.plan c.new-plan.ensures.acts whole in
     let acts : c.shut_all.new.plan.acts ≡ pieces_acts q shape = c.in_ok-shut_all.ensures.acts ∙ (λ z. all z ++ shut_acts (ranks z)) in
-    let is = sym (c.in_ok-plan.ensures.acts ∙ acts) in
+    c.in_ok-plan.ensures.acts ∙ acts
+
+pub returns-clause-parts : goal.returns-clause-parts
+returns-clause-parts c =
+    let q = c.args.grid.now.side in
+    let shape = c.args.shape in
+    let n : c.ranks-ranks.result ≡ q * q = c.ranks-ranks.ensures.value in
     let slot : 1 + q * q ≡ 1 + c.ranks-ranks.result = ap (λ k. 1 + k) (sym n) in
-    subst (λ (xs : List Act). IsPiecesPlan xs q shape (1 + c.ranks-ranks.result)) is
+    subst (λ (xs : List Act). IsPiecesPlan xs q shape (1 + c.ranks-ranks.result)) (sym (returns-clause-acts c))
     (subst (λ k. IsPiecesPlan (pieces_acts q shape) q shape k) slot (is_pieces_plan q (side_above _ _ n c.ranks-ranks.ensures.some) shape))

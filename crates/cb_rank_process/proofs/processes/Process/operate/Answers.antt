@@ -1,7 +1,7 @@
 use Rattle.std.proofs.Common.{rules, ap}
 use Rattle.std.proofs.lemmas.Result.{err_from_is_err_and}
 use Rattle.cb_rank_process.specs.Processes.{IsFree, ProcessView}
-use Rattle.cb_rank_process.proofs.BegunOperations.{begins, never_begins, operates_on}
+use Rattle.cb_rank_process.proofs.BegunOperations.{begins, brings_answer, never_begins, operates_on}
 use Rattle.cb_rank_process.proofs.RunnablePlans.{can_run}
 use Rattle.cb_rank_process.proofs.processes.Process.operate.Goals as goal
 
@@ -27,3 +27,7 @@ returns-clause-begins g c =
 pub returns-clause-on : goal.returns-clause-on
 returns-clause-on g c =
     operates_on c.args.operation c.args.self.now g.S.Semiring.arithmetic c.give_up_first.new.self (returns-clause-begins g c)
+
+pub returns-clause-brings : goal.returns-clause-brings
+returns-clause-brings g c =
+    brings_answer c.args.operation c.args.self.now g.S.Semiring.arithmetic g.met.S.Semiring.is_semiring c.give_up_first.new.self (returns-clause-begins g c)
