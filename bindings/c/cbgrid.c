@@ -207,12 +207,6 @@ int cbgrid_matrix_value(const struct cbgrid_matrix *a, uint32_t row, uint32_t co
     return CBGRID_OK;
 }
 
-int cbgrid_matrix_transpose(const struct cbgrid_matrix *a, struct cbgrid_matrix **out) {
-    struct owned made = {NULL};
-    if (!a || !out) return CBGRID_NULL_POINTER;
-    return hand(cbgrid_kernel_kept_transpose((kept){a}, &made), made, out);
-}
-
 int cbgrid_matrix_row_sums(const struct cbgrid_matrix *a, struct cbgrid_matrix **out) {
     struct owned made = {NULL};
     if (!a || !out) return CBGRID_NULL_POINTER;
@@ -449,12 +443,14 @@ static uint32_t join_ranges(struct range *ranges, size_t count, struct owned *ou
     return code;
 }
 
-/* If the columns can't be parted, one thread does it all: it finds the faults in their order. So it does if they are too few. */
+/* If the columns can't be parted, one thread does it all: it finds the faults in their order. So it does if they are too few; if
+ * the last operand that isn't a mask is one column, it isn't even asked where they part. */
 static uint32_t by_threads(const struct call *it, uint32_t threads, struct owned *made) {
     struct range ranges[CBGRID_MOST_THREADS];
     uint32_t ends[CBGRID_MOST_THREADS];
     size_t count = threads < CBGRID_MOST_THREADS ? threads : CBGRID_MOST_THREADS;
-    if (count < 2 || it->ends(it, ends, count)) return it->whole(it, made);
+    uint32_t columns = cbgrid_matrix_ncols(it->b.at ? it->b.at : it->a.at);
+    if (count < 2 || columns < 2 || it->ends(it, ends, count)) return it->whole(it, made);
     size_t used = ranges_of(it, ends, count, ranges);
     if (used < 2) return it->whole(it, made);
     share_out(make_columns, ranges, used);
@@ -496,6 +492,29 @@ int cbgrid_matrix_times(const struct cbgrid_matrix *a, const struct cbgrid_matri
     struct call it = {.a = {a}, .b = {b}, .whole = times, .ends = ends_by_entries, .columns = times_columns};
     struct owned made = {NULL};
     if (!a || !b || !out) return CBGRID_NULL_POINTER;
+    return hand(by_threads(&it, thread_count, &made), made, out);
+}
+
+static uint32_t turned(const struct call *it, struct owned *made) {
+    return cbgrid_kernel_kept_transpose(it->a, made);
+}
+static uint32_t turned_columns(const struct call *it, uint32_t first, uint32_t end, struct owned *made) {
+    return cbgrid_kernel_kept_transpose_columns(it->a, first, end, made);
+}
+
+/* The ranges of a transpose have as many rows of the operand. Each thread reads all its entries, so few entries aren't shared. */
+static uint32_t ends_by_rows(const struct call *it, uint32_t *ends, size_t count) {
+    size_t rows = cbgrid_matrix_nrows(it->a.at), used = cbgrid_matrix_entries(it->a.at) / 32768;
+    if (used < 2) return 1;
+    if (used > count) used = count;
+    for (size_t n = 0; n < count; n++) ends[n] = n + 1 < used ? rows / used * (n + 1) : rows;
+    return 0;
+}
+
+int cbgrid_matrix_transpose(const struct cbgrid_matrix *a, struct cbgrid_matrix **out) {
+    struct call it = {.a = {a}, .whole = turned, .ends = ends_by_rows, .columns = turned_columns};
+    struct owned made = {NULL};
+    if (!a || !out) return CBGRID_NULL_POINTER;
     return hand(by_threads(&it, thread_count, &made), made, out);
 }
 

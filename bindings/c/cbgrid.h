@@ -75,9 +75,9 @@ extern "C" {
 #define CBGRID_MOST_THREADS 256u
 
 /* Sets how many threads each call may use from now on, the caller's among them: at first 1, at most CBGRID_MOST_THREADS; 0 is
- * 1. Products, sums and products element-wise, prunes, column sums, cbgrid_matrix_select, _apply, _exclude and _update use
- * them, as far as each thread gets enough to do; the others use the caller's. The library starts threads when it first needs
- * them, and they sleep between calls. */
+ * 1. Products, sums and products element-wise, prunes, column sums, transposes, cbgrid_matrix_select, _apply, _exclude and
+ * _update use them, as far as each thread gets enough to do; the others use the caller's. The library starts threads when it first
+ * needs them, and they sleep between calls. */
 void cbgrid_threads(uint32_t count);
 
 /*

@@ -90,6 +90,7 @@ static int pruned_of(const struct operands *of, struct cbgrid_matrix **out) {
 static int column_sums_of(const struct operands *of, struct cbgrid_matrix **out) {
     return cbgrid_matrix_column_sums(of->a, out);
 }
+static int turned_of(const struct operands *of, struct cbgrid_matrix **out) { return cbgrid_matrix_transpose(of->a, out); }
 static int upper_of(const struct operands *of, struct cbgrid_matrix **out) {
     return cbgrid_matrix_select(of->a, CBGRID_UPPER, -1, out);
 }
@@ -106,9 +107,10 @@ static int updated_under(const struct operands *of, struct cbgrid_matrix **out) 
     return cbgrid_matrix_update(of->a, of->b, of->mask, CBGRID_COMPLEMENT, out);
 }
 
-enum { PRODUCT, SUM, TIMES, PRUNED, COLUMN_SUMS, UPPER, APPLIED, EXCLUDED, UPDATED, UPDATED_UNDER, CALLS };
+enum { PRODUCT, SUM, TIMES, PRUNED, COLUMN_SUMS, TURNED, UPPER, APPLIED, EXCLUDED, UPDATED, UPDATED_UNDER, CALLS };
 static int (*const calls[CALLS])(const struct operands *of, struct cbgrid_matrix **out) = {
-    product_of, sum_of, times_of, pruned_of, column_sums_of, upper_of, applied_to, excluded_of, updated_of, updated_under,
+    product_of, sum_of,   times_of,   pruned_of,   column_sums_of, turned_of,
+    upper_of,   applied_to, excluded_of, updated_of, updated_under,
 };
 
 /* Operands of the same shape, and a share for each of several threads; a few entries less and a few more than are left to one
@@ -223,6 +225,7 @@ static void test_calls_codes(void) {
         {UPDATED_UNDER, {a, a, wide}, CBGRID_SHAPES}, {UPDATED_UNDER, {wide, a, a}, CBGRID_SHAPES},
         {SUM, {a, NULL, NULL}, CBGRID_NULL_POINTER},  {PRUNED, {NULL, a, NULL}, CBGRID_NULL_POINTER},
         {COLUMN_SUMS, {NULL, a, NULL}, CBGRID_NULL_POINTER}, {UPPER, {NULL, a, NULL}, CBGRID_NULL_POINTER},
+        {TURNED, {NULL, a, NULL}, CBGRID_NULL_POINTER},
         {APPLIED, {NULL, a, NULL}, CBGRID_NULL_POINTER}, {EXCLUDED, {a, NULL, NULL}, CBGRID_NULL_POINTER},
         {UPDATED, {a, NULL, a}, CBGRID_NULL_POINTER},
     };

@@ -762,6 +762,28 @@ pub extern "C" fn cbgrid_kernel_kept_add_columns(
     columns_kept(alloc, Some(Operation::Add), &operands, first, end, out)
 }
 
+/// The columns from `first` up to, but not including, `end` of the transpose of a kept matrix, in the shape of the whole.
+#[unsafe(no_mangle)]
+pub extern "C" fn cbgrid_kernel_kept_transpose_columns(
+    alloc: Global,
+    a: Lent,
+    first: u32,
+    end: u32,
+    out: &mut Owned,
+) -> u32
+    ensures { IsColumnsCall (Some operation_is.Transpose) first end (a.kept.now ∷ []) result out.old out.new }
+{
+    let operands = [borrowed(a)];
+    columns_kept(
+        alloc,
+        Some(Operation::Transpose),
+        &operands,
+        first,
+        end,
+        out,
+    )
+}
+
 /// Multiplies two kept matrices place by place, in the columns of a range.
 #[unsafe(no_mangle)]
 pub extern "C" fn cbgrid_kernel_kept_times_columns(

@@ -2,15 +2,17 @@
 ghost use Rattle.std.specs.Prelude.{◌≡◌, [], ◌∷◌, length, IfOk};
 ghost use Rattle.cb_operations.specs.OperationAnswers.{operand_count_of, Agree, answer_of, shapes_in};
 ghost use Rattle.cb_operations.specs.Operands.{lent_in};
+ghost use Rattle.cb_matrix.specs.Operations.{transposed};
 
 use crate::ranges::{Work, make_all};
 use crate::{Panels, multiply_panels};
 use cb_dcsc::Block;
 use cb_layout::PanelledMatrix;
 use cb_operations::Operation;
+use cb_reshape::transpose;
 use cb_semirings::Semiring;
 use cb_serial::{binary, unary};
-use cb_shares::{ends_by_entries, ends_of, is_by_columns};
+use cb_shares::{ends_by_entries, ends_of, even_ends, is_by_columns};
 use std::alloc::{AllocError, Global};
 use std::thread::Threads;
 
@@ -30,9 +32,42 @@ fn of_one<S: Semiring + Send + Sync, R: Threads + Sync>(
         let ends = ends_by_entries(alloc, &[a], cols, count, panels.least)?;
         return make_all(rt, alloc, Work::Operation(operation), &[a], &ends);
     }
+    if let Operation::Transpose = operation {
+        return transposed(rt, alloc, panels, a);
+    }
     let whole = a.whole()?;
     let made = unary(alloc, operation, whole.block())?;
     Ok(PanelledMatrix::from_block(alloc, made))
+}
+
+/// The transpose. Threads share it if the matrix is in one panel: each reads all entries, and places those of its rows.
+fn transposed<S: Semiring + Send + Sync, R: Threads + Sync>(
+    rt: &R,
+    alloc: Global,
+    panels: Panels,
+    a: &PanelledMatrix<S>,
+) -> Result<PanelledMatrix<S>, AllocError>
+    ensures { IfOk result (λ m. m ≡ transposed S.arithmetic a.now) }
+{
+    let (front, others) = a.panels();
+    if others.is_empty() && panels.most > 1 {
+        let enough = front.len() / panels.least.max(1);
+        let ends = even_ends(
+            alloc,
+            a.shape().rows(),
+            enough.clamp(1, panels.most as usize),
+        )?;
+        return make_all(
+            rt,
+            alloc,
+            Work::Operation(Operation::Transpose),
+            &[a],
+            &ends,
+        );
+    }
+    let whole = a.whole()?;
+    let turned = transpose(alloc, whole.block())?;
+    Ok(PanelledMatrix::from_block(alloc, turned))
 }
 
 /// The result of an operation on two matrices.
@@ -103,8 +138,8 @@ fn of_three<'a, S: Semiring + Send + Sync, R: Threads + Sync>(
 }
 
 /// Computes an operation on matrices whose shapes agree, by as many threads as there are panels, this one among them. They share
-/// sums and products place by place, prunes, sums of columns, and products of matrices, also under a mask: each makes some
-/// columns, which stay in a panel of their own. This thread alone does every other operation, and those on few entries.
+/// sums and products place by place, prunes, sums of columns, transposes, and products of matrices, also under a mask: each makes
+/// some columns, which stay in a panel of their own. This thread alone does every other operation, and those on few entries.
 ///
 /// Costs what the operation costs by one thread, divided among the threads. Each thread copies its columns of an operand; and
 /// an operand in several panels is copied for an operation that isn't shared, and as the left factor of a product.

@@ -8,6 +8,7 @@ ghost use Rattle.std.specs.Prelude.{◌≡◌, ◌<◌, ◌≤◌, ◌^◌, All,
 ghost use Rattle.cb_dcsc.specs.Columns.{in_column};
 ghost use Rattle.cb_product.specs.ColumnStarts.{AreColumnStarts, IsNoted, Tells, slot_of};
 
+use crate::columns::range_of_next;
 use cb_dcsc::Block;
 use cb_semirings::Semiring;
 use std::alloc::{AllocError, Global};
@@ -71,7 +72,7 @@ impl ColumnIndex {
                 (starts[j] as usize, starts[j + 1] as usize)
             }
             ColumnIndex::Hashed { places, shift } => range_at(block, column, places, *shift),
-            ColumnIndex::Searched => block.range(column),
+            ColumnIndex::Searched => searched_range(block, column),
         }
     }
 
@@ -82,8 +83,7 @@ impl ColumnIndex {
         requires inside { All (λ i. i < block.now.shape.cols) rows.now }
     {
         if let ColumnIndex::Hashed { .. } = self {
-            let average = (block.len() / block.columns().max(1)).saturating_add(1);
-            return rows.len().saturating_mul(average);
+            return average_products(block, rows.len());
         }
         let mut count = 0usize;
         for row in rows {
@@ -157,4 +157,41 @@ fn range_at<S: Semiring>(
         }
     }
     block.range(column)
+}
+
+/// Returns where the entries of a column start and end among all: by a search at the place where it should be.
+fn searched_range<S: Semiring>(block: &Block<S>, column: u32) -> (usize, usize)
+    ensures order { result.0 ≤ result.1 }
+    ensures within { result.1 ≤ length block.now.entries }
+    ensures entries { slice_range block.now.entries result.0 result.1 ≡ in_column column block.now.entries }
+{
+    let mut place = likely_place(block.column_numbers(), block.shape().cols(), column);
+    range_of_next(block, &mut place, column)
+}
+
+/// Returns the place at which a column is to be looked for first among columns that ascend and are below `cols`: how many of
+/// them are below it.
+///
+/// Of all columns below it at most those that aren't there are missing, so as many places are searched, by halving. Which half
+/// is next is chosen without a branch, so the processor needn't guess, and searches for several columns overlap.
+fn likely_place(columns: &[u32], cols: u32, column: u32) -> usize {
+    let missing = (cols as usize).saturating_sub(columns.len());
+    let end = columns.len().min(column as usize);
+    let mut place = (column as usize).saturating_sub(missing).min(end);
+    let mut size = end - place;
+    while size > 0 {
+        let half = size - size / 2;
+        let middle = place + half;
+        if columns[middle - 1] < column {
+            place = middle;
+        }
+        size -= half;
+    }
+    place
+}
+
+/// Returns how many products this many entries have with the columns of a block, if they meet average columns.
+pub(crate) fn average_products<S: Semiring>(block: &Block<S>, entries: usize) -> usize {
+    let average = (block.len() / block.columns().max(1)).saturating_add(1);
+    entries.saturating_mul(average)
 }

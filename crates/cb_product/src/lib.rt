@@ -13,7 +13,7 @@
 //! Sums of zero aren't stored. An index finds the left block's columns. The terms of several products can be added
 //! to one accumulator in one pass.
 //!
-//! No list is longer than a few times the products or entries that it serves, so a block of side 2,147,483,647 costs what
+//! No list is longer than 16 times the products or entries that it serves, so a block of side 2,147,483,647 costs what
 //! its entries cost. Of the left block, only the columns that the right block's entries name are read.
 //!
 //! The merge by a heap is that of Buluç and Gilbert, Parallel Sparse Matrix-Matrix Multiplication and Indexing (SIAM J.
@@ -31,6 +31,7 @@ ghost use Rattle.cb_product.specs.Gathered.{AreGathered};
 ghost use Rattle.cb_product.specs.InColumns.{AreInColumns, only_columns};
 
 pub use crate::column_index::ColumnIndex;
+use crate::column_index::average_products;
 pub use crate::counts::{LEAST_PRODUCTS, products_of_column, products_of_columns, total_products};
 use crate::panel::Panel;
 pub use crate::product_column::ProductColumn;
@@ -249,6 +250,7 @@ fn first_place(all: &[u32], columns: &[u32]) -> usize {
 }
 
 /// Returns how many entries this many columns of the product can have: at most one for each product, and one for each place.
+/// Where products can't be counted in a moment, their number is estimated.
 fn most_entries<S: Semiring>(
     left: &Block<S>,
     index: &ColumnIndex,
@@ -259,7 +261,10 @@ fn most_entries<S: Semiring>(
     requires told { Tells index.now left.now }
 {
     prove_eq!(right.shape().rows(), left.shape().cols());
-    let products = index.products(left, right.row_numbers());
+    let products = match index {
+        ColumnIndex::Searched => average_products(left, right.len()),
+        _ => index.products(left, right.row_numbers()),
+    };
     products.min(columns.saturating_mul(left.shape().rows() as usize))
 }
 
@@ -284,9 +289,10 @@ fn room_for(left: usize, right: usize, accumulator: usize, products: usize) -> u
 }
 
 /// Whether the sparse accumulator pays for a column with this many entries. It does if the column has an entry for every
-/// 16,384 rows, for which at most four words are scanned, and the columns so far, with this one, have an entry for every four
-/// rows. So the accumulator is never longer than a few times the entries that it can serve.
+/// 16,384 rows, for which at most four words are scanned, and the columns so far, with this one, have an entry for every 16
+/// rows. To clear so many sums takes less time than to merge an entry, and the accumulator is never longer than 16 times the
+/// entries that it can serve.
 fn is_dense(rows: u32, entries: usize, seen: usize) -> bool {
     let rows = rows as usize;
-    rows / 16384 <= entries && rows / 4 <= seen
+    rows / 16384 <= entries && rows / 16 <= seen
 }

@@ -10,6 +10,7 @@ ghost use Rattle.cb_product.specs.InColumns.{only_columns};
 ghost use Rattle.cb_product.specs.SparseColumn.{AreEntries};
 ghost use Rattle.cb_product.specs.Sources.{IsSource, HasTerms, source_pairs, IsColumnWithAll};
 
+use crate::column_index::average_products;
 use crate::columns::{Column, of_next, union};
 use crate::counts::products_of_column;
 use crate::sources::{Source, gather_all, sources_of};
@@ -122,9 +123,8 @@ pub fn multiply_all_columns<S: Semiring>(
 pub fn estimated_products<S: Semiring>(products: &[Factors<'_, S>]) -> usize {
     let mut count = 0usize;
     for factors in products {
-        let columns = factors.left.columns().max(1);
-        let average = (factors.left.len() / columns).saturating_add(1);
-        count = count.saturating_add(factors.right.len().saturating_mul(average));
+        let products = average_products(factors.left, factors.right.len());
+        count = count.saturating_add(products);
     }
     count
 }

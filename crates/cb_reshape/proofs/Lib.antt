@@ -22,3 +22,6 @@ mod SumsSoFar
 mod TurnedSums
 mod AllValues
 mod RowTotals
+-- Crates above cite what is named here. Within: which rows a range has, `row_in`, `row_out`, `row_holds`; what a matrix has in a
+-- range of rows is a matrix, `within_matrix`, with its values there, `within_value`, and none in other rows, `within_none`.
+pub mod Within

@@ -17,12 +17,13 @@ ghost use Rattle.cb_matrix.specs.Values.{matrix_of};
 ghost use Rattle.cb_matrix.specs.Operations.{transposed, cut, placed};
 ghost use Rattle.cb_matrix.specs.Sparse.{IsMatrix};
 ghost use Rattle.cb_reshape.specs.Exchange.{exchanged};
+ghost use Rattle.cb_reshape.specs.Rows.{entries_within, rows_within};
 
 mod counting;
 mod parts;
 mod sums;
 
-use crate::counting::transpose_by_counting;
+use crate::counting::{is_within, transpose_by_counting};
 use crate::parts::{Part, moved};
 use cb_dcsc::Block;
 use cb_matrix::{Entry, LIMIT, Shape, in_order};
@@ -54,29 +55,66 @@ pub fn has_few_rows<S: Semiring>(block: &Block<S>) -> bool
 pub fn transpose<S: Semiring>(alloc: Global, block: &Block<S>) -> Result<Block<S>, AllocError>
     ensures { IfOk result (λ turned. turned ≡ transposed S.arithmetic block.now) }
 {
+    transpose_rows(alloc, block, (0, block.shape().rows()))
+}
+
+/// The rows of a block from one up to another, transposed: these columns of the transpose, in its whole shape.
+///
+/// Costs what the transpose does for the entries in these rows, a comparison for each of the others, and a list of one number
+/// for each row of the shape.
+pub fn transpose_rows<S: Semiring>(
+    alloc: Global,
+    block: &Block<S>,
+    rows: (u32, u32),
+) -> Result<Block<S>, AllocError>
+    requires order { rows.0 ≤ rows.1 }
+    requires inside { rows.1 ≤ block.now.shape.rows }
+    ensures { IfOk result (λ turned. turned ≡ transposed S.arithmetic (rows_within rows block.now)) }
+{
     let inner = block.shape();
     let shape = shape_of(inner.cols(), inner.rows());
     if has_few_rows(block) {
         let band = (block.len() / BANDS + 1).max(ENTRIES_PER_BAND);
-        return transpose_by_counting(alloc, block, shape, band);
+        return transpose_by_counting(alloc, block, shape, rows, band);
     }
-    transpose_by_sorting(alloc, block, shape)
+    transpose_by_sorting(alloc, block, shape, rows)
 }
 
-/// The transpose of a block, by a sort of its entries. `shape` is that of the transpose.
+/// The transpose of what a block has in a range of rows, by a sort of these entries. `shape` is that of the transpose.
 fn transpose_by_sorting<S: Semiring>(
     alloc: Global,
     block: &Block<S>,
     shape: Shape,
+    rows: (u32, u32),
 ) -> Result<Block<S>, AllocError>
     requires matrix { IsMatrix S.arithmetic block.now }
     requires shape { shape ≡ record { rows = block.now.shape.cols; cols = block.now.shape.rows } }
-    ensures { IfOk result (λ turned. turned ≡ transposed S.arithmetic block.now) }
+    requires order { rows.0 ≤ rows.1 }
+    ensures { IfOk result (λ turned. turned ≡ transposed S.arithmetic (rows_within rows block.now)) }
 {
-    let mut entries = block.entries()?;
+    let mut entries = entries_in_rows(alloc, block, rows)?;
     exchange(&mut entries);
     let entries = in_order(entries)?;
     Block::from_ordered(alloc, shape, &entries)
+}
+
+/// The entries of a block in a range of rows.
+fn entries_in_rows<S: Semiring>(
+    alloc: Global,
+    block: &Block<S>,
+    rows: (u32, u32),
+) -> Result<Vec<Entry>, AllocError>
+    requires { rows.0 ≤ rows.1 }
+    ensures { IfOk result (λ entries. entries.items ≡ entries_within rows block.now.entries) }
+{
+    let all = block.entries()?;
+    let mut entries = Vec::new(alloc);
+    for entry in &all {
+        if is_within(entry.row, rows) {
+            entries.push(*entry)?;
+        }
+    }
+    Ok(entries)
 }
 
 /// The part of a block in a range of rows and a range of columns, each given by its first number and the one after its

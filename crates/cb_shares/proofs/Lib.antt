@@ -18,6 +18,7 @@ mod ByColumns
 mod PlaceColumns
 mod PanelColumns
 mod PanelsBefore
+mod TurnedColumns
 mod PanelTotals
 mod Ends
 mod LaterEnds

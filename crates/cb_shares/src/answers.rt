@@ -3,6 +3,7 @@
 ghost use Rattle.std.specs.Prelude.{◌≡◌, [], ◌∷◌, length, IsTrue, IfOk};
 ghost use Rattle.cb_operations.specs.OperationAnswers.{operand_count_of, Agree, answer_of, shapes_in};
 ghost use Rattle.cb_operations.specs.Operands.{lent_in};
+ghost use Rattle.cb_matrix.specs.Operations.{transposed};
 ghost use Rattle.cb_matrix.specs.Values.{product};
 ghost use Rattle.cb_shares.specs.Shares.{panel};
 ghost use Rattle.cb_shares.specs.ByColumns.{IsByColumns};
@@ -12,6 +13,7 @@ use cb_dcsc::Block;
 use cb_layout::PanelledMatrix;
 use cb_operations::Operation;
 use cb_product::multiply;
+use cb_reshape::transpose_rows;
 use cb_semirings::Semiring;
 use cb_serial::{binary, ternary, unary};
 use std::alloc::{AllocError, Global};
@@ -44,9 +46,26 @@ fn columns_of_one<S: Semiring>(
         let part = columns_between(alloc, a, first, end)?;
         return unary(alloc, operation, part.block());
     }
+    if let Operation::Transpose = operation {
+        return transposed_columns(alloc, a, first, end);
+    }
     let whole = a.whole()?;
     let made = unary(alloc, operation, whole.block())?;
     only_between(alloc, made, first, end)
+}
+
+/// Some columns of a transpose: the same rows of the matrix, transposed.
+fn transposed_columns<S: Semiring>(
+    alloc: Global,
+    a: &PanelledMatrix<S>,
+    first: u32,
+    end: u32,
+) -> Result<Block<S>, AllocError>
+    ensures { IfOk result (λ m. m ≡ panel (transposed S.arithmetic a.now) first end) }
+{
+    let whole = a.whole()?;
+    let end = end.min(whole.block().shape().rows());
+    transpose_rows(alloc, whole.block(), (first.min(end), end))
 }
 
 /// Some columns of the result of an operation on two matrices.
@@ -145,7 +164,8 @@ fn columns_of_three<S: Semiring>(
 /// agree, in a block of the whole shape.
 ///
 /// For sums and products place by place, prunes and sums of columns it costs what these columns of the operands cost; for
-/// products, the products with these columns of the right factor; for all others what the whole result costs.
+/// products, the products with these columns of the right factor; for a transpose, what [`transpose_rows`] costs for the same
+/// rows; for all others what the whole result costs.
 pub fn operation_columns<S: Semiring>(
     alloc: Global,
     operation: Operation,

@@ -38,6 +38,24 @@ pub fn ends_by_entries<S: Semiring>(
     Ok(ends)
 }
 
+/// Returns where each of `count` ranges of columns ends, if each has about as many columns.
+pub fn even_ends(alloc: Global, cols: u32, count: usize) -> Result<Vec<u32>, AllocError>
+    ensures { IfOk result (λ ends. AreEnds count cols ends.items) }
+{
+    let mut ends = Vec::with_capacity(alloc, count)?;
+    if count == 0 {
+        return Ok(ends);
+    }
+    let step = (cols as usize / count) as u32;
+    let mut end = 0u32;
+    while ends.len() + 1 < count {
+        end = end.saturating_add(step).min(cols);
+        ends.push(end)?;
+    }
+    ends.push(cols)?;
+    Ok(ends)
+}
+
 /// The first column, at or after `from`, before which matrices have this many entries; or the end of all columns if there is
 /// none.
 fn column_after<S: Semiring>(

@@ -30,7 +30,7 @@ use cb_masked::{multiply_masked_columns, multiply_outside_columns};
 use cb_product::{ColumnIndex, products_of_columns, total_products};
 use cb_semirings::Semiring;
 pub use columns::columns_between;
-pub use entry_ends::ends_by_entries;
+pub use entry_ends::{ends_by_entries, even_ends};
 pub use joins::{are_before, join, total};
 pub use selections::{is_selection_by_columns, selection_columns, update_columns};
 use std::alloc::{AllocError, Global};
