@@ -17,7 +17,7 @@ ghost use Rattle.cb_matrix.specs.Values.{matrix_of};
 ghost use Rattle.cb_matrix.specs.Operations.{transposed, cut, placed};
 ghost use Rattle.cb_matrix.specs.Sparse.{IsMatrix};
 ghost use Rattle.cb_reshape.specs.Exchange.{exchanged};
-ghost use Rattle.cb_reshape.specs.Rows.{entries_within, rows_within};
+ghost use Rattle.cb_reshape.specs.Rows.{entries_within, is_row_of, rows_within};
 
 mod counting;
 mod parts;
@@ -92,28 +92,30 @@ fn transpose_by_sorting<S: Semiring>(
     requires order { rows.0 ≤ rows.1 }
     ensures { IfOk result (λ turned. turned ≡ transposed S.arithmetic (rows_within rows block.now)) }
 {
-    let mut entries = entries_in_rows(alloc, block, rows)?;
+    let mut entries = entries_in_rows(block, rows)?;
     exchange(&mut entries);
     let entries = in_order(entries)?;
     Block::from_ordered(alloc, shape, &entries)
 }
 
+/// Whether an entry is in a range of rows.
+fn is_entry_within(entry: &Entry, rows: (u32, u32)) -> bool
+    requires { rows.0 ≤ rows.1 }
+    ensures { result ≡ is_row_of rows entry.now.row }
+{
+    is_within(entry.row, rows)
+}
+
 /// The entries of a block in a range of rows.
 fn entries_in_rows<S: Semiring>(
-    alloc: Global,
     block: &Block<S>,
     rows: (u32, u32),
 ) -> Result<Vec<Entry>, AllocError>
     requires { rows.0 ≤ rows.1 }
     ensures { IfOk result (λ entries. entries.items ≡ entries_within rows block.now.entries) }
 {
-    let all = block.entries()?;
-    let mut entries = Vec::new(alloc);
-    for entry in &all {
-        if is_within(entry.row, rows) {
-            entries.push(*entry)?;
-        }
-    }
+    let mut entries = block.entries()?;
+    entries.retain(|entry| is_entry_within(entry, rows));
     Ok(entries)
 }
 
