@@ -4,10 +4,10 @@ ghost use Rattle.cb_semirings.specs.Tables.{plus_times};
 ghost use Rattle.cb_matrix.specs.Sparse.{IsMatrix};
 ghost use Rattle.cb_dcsc.specs.Columns.{with_entries};
 
-use crate::samples::{are_same, entries, has_entries, is_right_or_refused};
+use crate::samples::{are_same, has_entries, is_right_or_refused};
 use cb_dcsc::{Block, BlockFault};
 use cb_matrix::{Entry, LIMIT, Shape};
-use cb_samples::{SampleFault, block, entry, shape};
+use cb_samples::{SampleFault, block, entries, entry, shape};
 use cb_semirings::{MinPlus, OrAnd, PlusTimes, Semiring};
 use std::alloc::{AllocError, Global};
 use std::test::Fail;

@@ -1,9 +1,8 @@
 //! Worked examples.
-use crate::samples::entries;
 use cb_dcsc::Block;
 use cb_dense::add_product;
 use cb_matrix::{Entry, LIMIT};
-use cb_samples::{SampleFault, block};
+use cb_samples::{SampleFault, block, entries};
 use cb_semirings::PlusTimes;
 use std::alloc::Global;
 

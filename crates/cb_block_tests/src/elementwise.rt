@@ -1,7 +1,7 @@
 //! Worked examples, with ample memory and with each allocation refused in turn.
 use crate::calls::{Call, Case, Given, are_right, are_right_or_refused};
-use crate::samples::entries;
 use cb_matrix::{LIMIT, Test};
+use cb_samples::entries;
 
 const TOP: u64 = u64::MAX;
 

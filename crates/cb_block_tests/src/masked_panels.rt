@@ -4,11 +4,10 @@ ghost use Rattle.std.specs.Prelude.{◌≡◌, IfOk};
 ghost use Rattle.cb_matrix.specs.Values.{product_shape};
 
 use crate::panels::scattered;
-use crate::samples::entries;
 use cb_dcsc::Block;
 use cb_masked::{multiply_masked, multiply_outside};
 use cb_matrix::LIMIT;
-use cb_samples::{SampleFault, block};
+use cb_samples::{SampleFault, block, entries};
 use cb_semirings::PlusTimes;
 use cb_shares::{ends_of, masked_panel, outside_panel};
 use std::alloc::{AllocError, Global};

@@ -1,7 +1,6 @@
 //! Worked examples, with ample memory and with each allocation refused in turn.
-use crate::samples::entries;
 use cb_matrix::{Entry, EntryFault, LIMIT, Matrix, ProductFault, Shape};
-use cb_samples::{SampleFault, are_values, entry, shape};
+use cb_samples::{SampleFault, are_values, entries, entry, shape};
 use cb_semirings::{MinPlus, PlusFirst, PlusTimes, Semiring};
 use std::alloc::{AllocError, Global};
 use std::test::Fail;

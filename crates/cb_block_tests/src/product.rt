@@ -4,11 +4,11 @@ ghost use Rattle.cb_product.specs.SeveralProducts.{MakeShape};
 
 use crate::calls::{Call, Case, are_right, are_right_or_refused, is_right};
 use crate::matrix::matrix;
-use crate::samples::{entries, has_entries};
+use crate::samples::has_entries;
 use cb_dcsc::{Block, BlockFault};
 use cb_matrix::{Entry, LIMIT, Matrix, Shape};
 use cb_product::{Factors, multiply_all_into, multiply_into};
-use cb_samples::{SampleFault, block, entry};
+use cb_samples::{SampleFault, block, entries, entry};
 use cb_semirings::PlusTimes;
 use std::alloc::{AllocError, Global};
 

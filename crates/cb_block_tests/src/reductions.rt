@@ -2,10 +2,10 @@
 ghost use Rattle.std.specs.Prelude.{◌<◌, ◌≤◌, ◌^◌};
 
 use crate::calls::{Call, Case, Given, are_right, are_right_or_refused};
-use crate::samples::{entries, has_entries, is_right_or_refused};
+use crate::samples::{has_entries, is_right_or_refused};
 use cb_matrix::{Entry, LIMIT};
 use cb_reshape::{row_sums, total};
-use cb_samples::{SampleFault, block, entry};
+use cb_samples::{SampleFault, block, entries, entry};
 use cb_semirings::PlusTimes;
 use std::alloc::{AllocError, Global};
 

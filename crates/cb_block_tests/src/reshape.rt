@@ -1,7 +1,7 @@
 //! Worked examples, with ample memory and with each allocation refused in turn.
 use crate::calls::{Call, Case, Given, are_right, are_right_or_refused};
-use crate::samples::entries;
 use cb_matrix::{Entry, LIMIT};
+use cb_samples::entries;
 
 /// The last row and the last column of the largest sides.
 const LAST: u32 = LIMIT - 1;

@@ -1,17 +1,8 @@
 //! How the tests write entries, and tests that `cb_samples` makes the blocks that it is asked for or reports why not.
 use cb_dcsc::{Block, BlockFault};
-use cb_samples::{SampleFault, block, entry};
+use cb_samples::{SampleFault, block, entries, entry};
 use cb_semirings::{OrAnd, PlusTimes, Semiring};
 use std::alloc::Global;
-
-/// Entries, each written as its row, column and value.
-macro_rules! entries {
-    ($(($row:expr, $column:expr, $value:expr)),* $(,)?) => {
-        &[$(cb_matrix::Entry { row: $row, column: $column, value: $value }),*]
-    };
-}
-
-pub(crate) use entries;
 
 /// Whether a block has exactly these entries.
 pub(crate) fn has_entries<S: Semiring>(block: &Block<S>, wanted: &[cb_matrix::Entry]) -> bool {

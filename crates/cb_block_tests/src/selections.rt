@@ -1,9 +1,9 @@
 //! Selections: by place, of diagonals, of rows and columns by their numbers; replaced values, Kronecker products and
 //! assigned parts. Worked rows, with ample memory and with each allocation refused in turn.
 use crate::calls::{Call, Case, Given, are_right, are_right_or_refused};
-use crate::samples::entries;
 use cb_matrix::LIMIT;
 use cb_operations::{Diagonal, Function, Region};
+use cb_samples::entries;
 
 const TOP: u64 = u64::MAX;
 

@@ -1,8 +1,8 @@
 //! Blocks updated under masks, products of transposes, and powers: worked rows, with ample memory and with each allocation
 //! refused in turn.
 use crate::calls::{Call, Case, Given, are_right, are_right_or_refused};
-use crate::samples::entries;
 use cb_matrix::LIMIT;
+use cb_samples::entries;
 use cb_selections::WriteBack;
 
 const TOP: u64 = u64::MAX;

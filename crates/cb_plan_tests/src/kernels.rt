@@ -2,7 +2,7 @@
 ghost use Rattle.std.specs.Prelude.{◌<◌, IfOk};
 ghost use Rattle.cb_plan.specs.Runnable.{IsRunnable};
 
-use crate::samples::{Given, entries, grid_of, matrix};
+use crate::samples::{Given, grid_of, matrix};
 use cb_dcsc::Block;
 use cb_layout::Grid;
 use cb_matrix::{Shape, Test};
@@ -13,7 +13,7 @@ use cb_plan_operations::{
 };
 use cb_plan_vectors::scatter_input;
 use cb_rank_work::run_plain;
-use cb_samples::{SampleFault, shape};
+use cb_samples::{SampleFault, entries, shape};
 use cb_semirings::PlusTimes;
 use std::alloc::{AllocError, Global};
 use std::test::Fail;

@@ -1,13 +1,13 @@
 //! Worked examples, with ample memory and with each allocation refused in turn.
 ghost use Rattle.std.specs.Prelude.{◌≡◌, ◌*◌, IfOk};
 
-use crate::samples::{Given, entries, grid_of, matrix};
+use crate::samples::{Given, grid_of, matrix};
 use cb_dcsc::{Block, BlockFault};
 use cb_grid::{Grid, Side};
 use cb_layout::{DistributedMatrix, Segments, gather};
 use cb_matrix::{Entry, LIMIT, Matrix};
 use cb_plan_vectors::{gather_result, scatter_input};
-use cb_samples::{SampleFault, entry};
+use cb_samples::{SampleFault, entries, entry};
 use cb_semirings::PlusTimes;
 use std::alloc::{AllocError, Global};
 use std::test::Fail;

@@ -7,15 +7,6 @@ use cb_samples::{SampleFault, block};
 use cb_semirings::PlusTimes;
 use std::alloc::Global;
 
-/// Entries, each written as its row, column and value.
-macro_rules! entries {
-    ($(($row:expr, $column:expr, $value:expr)),* $(,)?) => {
-        &[$(cb_matrix::Entry { row: $row, column: $column, value: $value }),*]
-    };
-}
-
-pub(crate) use entries;
-
 /// The rows, columns and entries of a matrix, by column and then by row.
 pub(crate) type Given<'a> = (u32, u32, &'a [Entry]);
 

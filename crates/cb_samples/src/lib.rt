@@ -1,4 +1,4 @@
-//! Small blocks for tests, written entry by entry.
+//! Small blocks for tests and examples, written entry by entry.
 //!
 //! For example, `block(alloc, 2, 2, &[entry(0, 1, 3)])?` is the block of two rows and two columns with a 3 in row 0 of
 //! column 1.
@@ -8,18 +8,23 @@ ghost use Rattle.std.specs.Prelude.{◌≡◌, ◌↔◌, IsTrue, All, IfOk};
 ghost use Rattle.cb_semirings.specs.Arithmetic.{IsValue};
 
 use cb_dcsc::{Block, BlockFault};
-use cb_matrix::{Entry, Shape};
+pub use cb_matrix::Entry;
+use cb_matrix::Shape;
 use cb_semirings::Semiring;
 use std::alloc::{AllocError, Global};
+use thiserror::Error;
 
 /// Why a test's sample is no block.
-#[derive(Clone, Copy, Debug, PartialEq, Eq)]
+#[derive(Clone, Copy, Debug, PartialEq, Eq, Error)]
 pub enum SampleFault {
     /// More rows or columns than a matrix can have.
+    #[error("more rows or columns than a matrix can have")]
     Shape,
     /// A number that isn't a value of the semiring.
+    #[error("a number that isn't a value of the semiring")]
     Value,
     /// Entries that make no block, or want of memory.
+    #[error("{0}")]
     Block(BlockFault),
 }
 
@@ -33,6 +38,14 @@ impl From<AllocError> for SampleFault {
     fn from(_error: AllocError) -> SampleFault {
         SampleFault::Block(BlockFault::Memory)
     }
+}
+
+/// Entries, each written as its row, column and value, as a constant.
+#[macro_export]
+macro_rules! entries {
+    ($(($row:expr, $column:expr, $value:expr)),* $(,)?) => {
+        &[$($crate::Entry { row: $row, column: $column, value: $value }),*]
+    };
 }
 
 /// Makes an entry from its row, column and value.

@@ -4,8 +4,7 @@
 
 use anyhow::ensure;
 use cb_dcsc::Block;
-use cb_layout::Grid;
-use cb_market::read_distributed;
+use cb_market::read;
 use cb_operations::Operation;
 use cb_semirings::{MinPlus, OrAnd};
 
@@ -22,9 +21,8 @@ const ROADS: &str = "%%MatrixMarket matrix coordinate integer general
 
 fn main(rt: HostRuntime) -> anyhow::Result<()> {
     let alloc = rt.alloc();
-    let (grid, text) = (Grid::single(), ROADS.as_bytes());
-    let roads: Block<MinPlus> = read_distributed(alloc, &grid, text)?.into_block();
-    let edges: Block<OrAnd> = read_distributed(alloc, &grid, text)?.into_block();
+    let roads: Block<MinPlus> = read(alloc, ROADS.as_bytes())?;
+    let edges: Block<OrAnd> = read(alloc, ROADS.as_bytes())?;
     let (by_roads, by_edges) = (roads.shape(), edges.shape());
     ensure!(by_roads.rows() == by_roads.cols(), "not a square");
     ensure!(by_edges.rows() == by_edges.cols(), "not a square");

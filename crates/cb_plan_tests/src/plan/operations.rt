@@ -3,11 +3,10 @@ ghost use Rattle.std.specs.Prelude.{◌≡◌, ◌<◌, ℕ, All, AllPairs, IfOk
 ghost use Rattle.cb_plan.specs.Plans.{IsElsewhere};
 
 use crate::plan::{grown, send, shut};
-use crate::samples::entries;
 use cb_matrix::{Entry, Test};
 use cb_plan::{Act, CheckedPlan, Op, RankStore, SLOTS, Slot, Start};
 use cb_rank_work::run_plain;
-use cb_samples::{SampleFault, block, shape};
+use cb_samples::{SampleFault, block, entries, shape};
 use cb_semirings::PlusTimes;
 use std::alloc::Global;
 use std::test::Fail;
