@@ -21,3 +21,7 @@ pub mod TextParts
 -- BegunOperations: the operation that a process begins (`operates_on`), or that it gathers columns (`gathers`); what these bring
 -- each rank (`brings_answer`, `brings_panels`); and why they aren't begun (`lacks`, `never_started`).
 pub mod BegunOperations
+-- VertexParts: the lines of a column, rank by rank (`vertex_parts`).
+pub mod VertexParts
+-- SearchedBlocks: the blocks of a search (`begins_search`, `makes_round`), and of a matrix of bits (`weighs_bits`).
+pub mod SearchedBlocks

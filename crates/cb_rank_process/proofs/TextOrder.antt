@@ -72,7 +72,7 @@ module _ (start : ℕ → ℕ) (rises : (i : ℕ) → start i ≤ start (i + 1))
 
 module _ {X : Type 0} where
   -- lists along a range that are equal there
-  flat_same : (f g : ℕ → List X) (a n : ℕ) → ((k : ℕ) → a ≤ k → k < a + n → f k ≡ g k) → flat_map f (range_with_len a n) ≡ flat_map g (range_with_len a n)
+  pub flat_same : (f g : ℕ → List X) (a n : ℕ) → ((k : ℕ) → a ≤ k → k < a + n → f k ≡ g k) → flat_map f (range_with_len a n) ≡ flat_map g (range_with_len a n)
   flat_same f g a zero h = refl
   flat_same f g a (suc n) h = ap (λ l. l ++ flat_map f (range_with_len (a + 1) n)) (h a (omega arith) (omega arith)) ∙ ap (λ l. g a ++ l) (flat_same f g (a + 1) n (λ k l b. h k (omega arith) (omega arith)))
 
@@ -82,7 +82,7 @@ module _ {X : Type 0} where
   flat_none f a (suc n) h = ap (λ l. l ++ flat_map f (range_with_len (a + 1) n)) (h a (omega arith) (omega arith)) ∙ flat_none f (a + 1) n (λ k l b. h k (omega arith) (omega arith))
 
   -- lists of lists, joined at once or one after another
-  flat_flat : {A B : Type 0} (f : B → List X) (g : A → List B) (xs : List A) → flat_map f (flat_map g xs) ≡ flat_map (λ x. flat_map f (g x)) xs
+  pub flat_flat : {A B : Type 0} (f : B → List X) (g : A → List B) (xs : List A) → flat_map f (flat_map g xs) ≡ flat_map (λ x. flat_map f (g x)) xs
   flat_flat f g [] = refl
   flat_flat f g (x ∷ xs) = flat_map-append f (g x) (flat_map g xs) ∙ ap (λ l. flat_map f (g x) ++ l) (flat_flat f g xs)
 
@@ -100,7 +100,7 @@ module _ (z : ℕ) (rows : ℕ) where
       ∙ ap (λ v. column_of z g j i ++ cond (v == z) [] (record { row = i; column = j; value = v } ∷ [])) (h i (omega arith))
 
   -- a column of zeros has no entries
-  column_none : (f : ℕ → ℕ → ℕ) (j m : ℕ) → ((i : ℕ) → i < m → f i j ≡ z) → column_of z f j m ≡ []
+  pub column_none : (f : ℕ → ℕ → ℕ) (j m : ℕ) → ((i : ℕ) → i < m → f i j ≡ z) → column_of z f j m ≡ []
   unfolding column_of
   column_none f j zero h = refl
   column_none f j (suc i) h =

@@ -2,7 +2,8 @@
 //!
 //! A [`Process`] keeps a few matrices, of each of which it has its block. Every step that takes more than one process is a plan:
 //! to read a text ([`Process::read`]), to compute an operation ([`Process::operate`]), and to bring an answer into the order of
-//! its text ([`Process::gather_columns`]). A plan is begun by such a call, done half by half ([`Process::want`] and the calls
+//! its text ([`Process::gather_columns`]). A search in a graph is a series of products, between which each process takes over the
+//! lower numbers of its own vertices ([`Process::begin_search`], [`Process::settle`]). A plan is begun by such a call, done half by half ([`Process::want`] and the calls
 //! that do what it says), and ended by [`Process::end`].
 //!
 //! Whoever drives a process moves bytes and letters, and computes nothing. Each call checks whether its turn has come, and if not
@@ -21,6 +22,7 @@ mod outgoing;
 mod processes;
 mod registers;
 mod texts;
+mod vertex_numbers;
 
 pub use any_process::{AnyMessage, AnyProcess};
 pub use any_texts::{TextFault, opening_length, text_fault};

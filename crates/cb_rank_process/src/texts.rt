@@ -1,8 +1,8 @@
 //! Texts of matrices: a process reads a piece of one, and writes the lines of some columns.
-ghost use Rattle.std.specs.Prelude.{◌≡◌, ◌⊎◌, [], ◌∷◌, slice_set, string_bytes, Some, None, IfSome, IfNone, IfOk, IfErr, OnSome, OnErr};
+ghost use Rattle.std.specs.Prelude.{◌≡◌, ◌⊎◌, [], ◌∷◌, string_bytes, IfOk, IfErr, OnErr};
 ghost use Rattle.cb_market_pages.specs.Sheets.{lines_of};
 ghost use Rattle.cb_market_pages.specs.Text.{head_of, header_line, number_line};
-ghost use Rattle.cb_rank_process.specs.Processes.{IsLackAt, given_up, register_at, with_registers};
+ghost use Rattle.cb_rank_process.specs.Processes.{IsLackAt};
 ghost use Rattle.cb_rank_process.specs.Texts.{BeginsReading, HasCount, HasHead, IsPieceOf, IsReadFault, WritesLines};
 
 use crate::faults::ProcessFault;
@@ -182,28 +182,6 @@ impl<S: Based> Process<S> {
         Ok(head)
     }
 
-    /// Takes a matrix out of a register.
-    fn take_out(&mut self, register: u32) -> Option<Kept<S>>
-        ensures kept { IfSome result (λ kept. register_at self.old register ≡ Some kept) }
-        ensures given_up { OnSome result (self.new ≡ with_registers self.old (given_up register self.old.registers)) }
-        ensures none { IfNone result (register_at self.old register ≡ None) }
-        ensures unchanged { IfNone result (self.new ≡ self.old) }
-    {
-        match self.registers.get_mut(register as usize) {
-            Some(place) => place.take(),
-            None => None,
-        }
-    }
-
-    /// Puts a matrix into a register, if there is such a one.
-    fn put_back(&mut self, register: u32, kept: Kept<S>)
-        ensures { self.new ≡ with_registers self.old (slice_set self.old.registers register (Some kept)) }
-    {
-        if let Some(place) = self.registers.get_mut(register as usize) {
-            *place = Some(kept);
-        }
-    }
-
     /// The lines of the columns in a register, which gives them up. Refused, nothing changes.
     pub fn lines(&mut self, alloc: Global, register: u32) -> Result<Vec<u8>, ProcessFault>
         ensures lines { IfOk result (λ text. WritesLines S.arithmetic register self.old text.items self.new) }
@@ -217,7 +195,7 @@ impl<S: Based> Process<S> {
         match written(alloc, block) {
             Ok(lines) => Ok(lines),
             Err((block, _error)) => {
-                self.put_back(register, Kept { shape, block });
+                self.put(register, Kept { shape, block });
                 Err(ProcessFault::Memory)
             }
         }
