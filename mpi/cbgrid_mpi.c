@@ -1,9 +1,10 @@
 /*
- * cbgrid-mpi: operations on matrices by MPI processes, a square number of them, each of which has a block of each matrix.
+ * cbgrid-mpi: operations on matrices, and searches in graphs, by MPI processes, a square number of them, each of which has a block
+ * of each matrix.
  *
  * All that is computed and decided is in the proved library crates/cb_mpi. The driver loads each process's bytes of a file
- * (texts.c), carries letters (letters.c), writes bytes at their place, and ends all processes together (ends.c). This file has the
- * words of the command line: those of cbgrid, and `-o`.
+ * (texts.c), carries letters (letters.c), makes the rounds of a search (searches.c), writes bytes at their place, and ends all
+ * processes together (ends.c). This file has the words of the command line: those of cbgrid, and `-o`.
  */
 #include "driver.h"
 
@@ -16,13 +17,17 @@ int me, ranks, side, lane = 2;
 struct process process;
 uint32_t semiring;
 
+/* The commands that are no operation. */
+enum { LEVELS = 1000, DISTANCES };
+
 /* The commands, and how many files they take. */
 static const struct command {
     const char *name;
     uint32_t operation;
     int files;
 } commands[] = {{"multiply", MULTIPLY, 2}, {"spmv", MULTIPLY_VECTOR, 2}, {"transpose", TRANSPOSE, 1}, {"reduce", ROW_SUMS, 1},
-                {"add", ADD, 2},           {"times", TIMES, 2},          {"prune", PRUNE_BELOW, 1}};
+                {"add", ADD, 2},           {"times", TIMES, 2},          {"prune", PRUNE_BELOW, 1}, {"bfs", LEVELS, 1},
+                {"relax", DISTANCES, 1}};
 
 /* What a command line asks for. */
 struct job {
@@ -30,7 +35,11 @@ struct job {
     uint64_t value;
     const char *files[3], *out;
     int count, times, has_test, has_value;
+    uint32_t source;
 };
+
+/* Whether a command searches in a graph. */
+static int searches(uint32_t operation) { return operation == LEVELS || operation == DISTANCES; }
 
 /* Ends the run with what is wrong in the command line. */
 static void refuse(const char *what, const char *word) {
@@ -39,7 +48,7 @@ static void refuse(const char *what, const char *word) {
                 "cbgrid-mpi: %s%s\n\n"
                 "usage: mpirun -n N cbgrid-mpi COMMAND FILES OPTIONS, with N = 1, 4, 9, 16, 25 or 36\n"
                 "  multiply A B [--mask FILE]; spmv A x; transpose A; reduce A [--by rows|columns]; add A B; times A B;\n"
-                "  prune A --test below|above|equal --value NUMBER\n"
+                "  prune A --test below|above|equal --value NUMBER; bfs A --source VERTEX; relax A --source VERTEX\n"
                 "  options: --semiring NAME, --lane NUMBER, -o FILE, --times\n",
                 what, word);
     finish(USAGE_STATUS);
@@ -97,7 +106,8 @@ static const struct command *command_of(const char *word) {
 /* Takes one word of the line, and what belongs to it. Each option may be given once. */
 static void take_word(struct job *job, const struct command *command, char **words, int count, int *n) {
     static const char *const sides[] = {"rows", "columns", NULL}, *const tests[] = {"below", "above", "equal", NULL},
-                            *const options[] = {"-o", "--times", "--lane", "--semiring", "--mask", "--by", "--test", "--value", NULL};
+                            *const options[] = {"-o",     "--times", "--lane",  "--semiring", "--mask",
+                                               "--by",   "--test",  "--value", "--source",   NULL};
     static unsigned given;
     const char *word = words[*n];
     if (*word != '-') {
@@ -117,11 +127,12 @@ static void take_word(struct job *job, const struct command *command, char **wor
     if (option == 0) job->out = value;
     else if (option == 1) job->times = 1;
     else if (option == 2) lane = (int)number_in(value, 1, 64);
-    else if (option == 3) semiring = semiring_of(value);
+    else if (option == 3 && !searches(command->operation)) semiring = semiring_of(value);
     else if (option == 4 && command->operation == MULTIPLY) job->files[2] = value;
     else if (option == 5 && command->operation == ROW_SUMS) job->operation = ROW_SUMS + place_of(value, sides);
     else if (option == 6 && prunes) job->operation = PRUNE_BELOW + place_of(value, tests);
     else if (option == 7 && prunes) job->value = number_in(value, 0, UINT64_MAX);
+    else if (option == 8 && searches(command->operation)) job->source = (uint32_t)number_in(value, 1, INT32_MAX);
     else refuse("no option of this command: ", word);
 }
 
@@ -134,6 +145,10 @@ static struct job job_of(char **words, int count) {
     for (int n = 2; n < count; n++) take_word(&job, command, words, count, &n);
     if (job.count != command->files) refuse("too few files for ", command->name);
     if (command->operation == PRUNE_BELOW && !(job.has_test && job.has_value)) refuse("no --test or no --value for ", command->name);
+    if (searches(command->operation)) {
+        if (!job.source) refuse("no --source for ", command->name);
+        semiring = semiring_of(command->operation == LEVELS ? "or-and" : "min-plus");
+    }
     if (job.files[2]) {
         job.operation = MULTIPLY_MASKED;
         job.count = 3;
@@ -152,10 +167,21 @@ static void print_times(const double *clock) {
                 1e3 * most[2], (unsigned long long)all[0], (double)all[1] / 1e6);
 }
 
+/* Computes the answer from what the first registers have, and returns the register that then has it. */
+static uint32_t compute(const struct job *job) {
+    uint32_t origin = 0;
+    /* The levels are the distances where each entry weighs 1. */
+    if (job->operation == LEVELS) agree_on(cbgrid_process_weigh(process, 0, &process), 0);
+    if (searches(job->operation)) return search_from(job->source - 1);
+    agree_on(cbgrid_process_operate(process, job->operation, job->value, &process), 0);
+    do_plan();
+    agree_on(cbgrid_process_end(process, 0, &origin, &process), origin);
+    return 0;
+}
+
 /* Does a job. */
 static void run(const struct job *job) {
     struct text texts[3];
-    uint32_t origin = 0;
     double clock[4] = {MPI_Wtime()};
     for (int n = 0; n < job->count; n++) texts[n].name = job->files[n];
     open_texts(texts, job->count);
@@ -163,11 +189,10 @@ static void run(const struct job *job) {
     open_lanes();
     for (int n = 0; n < job->count; n++) read_text(&texts[n], (uint32_t)n);
     clock[1] = MPI_Wtime();
-    agree_on(cbgrid_process_operate(process, job->operation, job->value, &process), 0);
-    do_plan();
-    agree_on(cbgrid_process_end(process, 0, &origin, &process), origin);
+    uint32_t answer = compute(job);
     clock[2] = MPI_Wtime();
-    write_answer(0, job->out);
+    if (searches(job->operation)) write_vertices(answer, job->out);
+    else write_answer(answer, job->out);
     clock[3] = MPI_Wtime();
     if (job->times) print_times(clock);
 }

@@ -43,5 +43,9 @@ struct text {
 void open_texts(struct text *texts, int count);
 void read_text(const struct text *text, uint32_t reg);
 void write_answer(uint32_t reg, const char *name);
+void write_vertices(uint32_t reg, const char *name);
+
+/* searches.c: levels and distances in a graph. */
+uint32_t search_from(uint32_t source);
 
 #endif

@@ -80,6 +80,12 @@ uint32_t cbgrid_process_read(struct process p, const unsigned char *opening, siz
                              size_t piece_len, struct line_counts *counts, struct process *out);
 uint32_t cbgrid_process_operate(struct process p, uint32_t operation, uint64_t value, struct process *out);
 uint32_t cbgrid_process_gather(struct process p, uint32_t reg, struct process *out);
+uint32_t cbgrid_process_copy(struct process p, uint32_t from, uint32_t to, struct process *out);
+uint32_t cbgrid_process_weigh(struct process p, uint32_t reg, struct process *out);
+uint32_t cbgrid_process_begin_search(struct process p, uint32_t graph, uint32_t source, uint32_t known, uint32_t fell,
+                                     struct process *out);
+uint32_t cbgrid_process_settle(struct process p, uint32_t known, uint32_t reached, struct process *out);
+uint32_t cbgrid_process_vertex_lines(struct process p, uint32_t reg, struct bytes *lines);
 uint32_t cbgrid_process_want(struct process p, uint32_t *other);
 uint32_t cbgrid_process_post(struct process p, struct message *message, struct process *out);
 uint32_t cbgrid_process_take(struct process p, const struct head *head, const struct columns *lists, struct process *out);

@@ -262,7 +262,24 @@ static void write_out(struct bytes head, struct bytes lines, MPI_Comm order) {
     agree_to_write(written, NULL);
 }
 
-/* Writes the matrix in a register to a file of this name, or to standard output if there is none. */
+/* Writes an answer, of which this process has these lines, to a file of this name, or to standard output if there is none. The lines
+ * of a process come before those of each with a greater number `turn`. */
+static void write_lines(struct bytes head, struct bytes lines, int turn, const char *name) {
+    MPI_Comm order;
+    int64_t length = (int64_t)lines.len, place = 0;
+    MPI_Request request;
+    MPI_Comm_split(MPI_COMM_WORLD, 0, turn, &order);
+    MPI_Iexscan(&length, &place, 1, MPI_INT64_T, MPI_SUM, order, &request);
+    await(&request, 1);
+    if (me == 0) place = 0;
+    if (name) write_to_file(name, head, lines, (off_t)place);
+    else write_out(head, lines, order);
+    MPI_Comm_free(&order);
+    if (head.len) free((void *)head.at);
+    if (lines.len) free((void *)lines.at);
+}
+
+/* Writes the matrix in a register. */
 void write_answer(uint32_t reg, const char *name) {
     struct bytes head = {NULL, 0}, lines = {NULL, 0};
     uint64_t count = 0, all;
@@ -276,16 +293,12 @@ void write_answer(uint32_t reg, const char *name) {
     if (code == DONE) code = cbgrid_process_lines(process, reg, &lines, &process);
     agree_on(code, 0);
     /* By column of the grid, and in it by row, the processes have the lines in order. */
-    MPI_Comm order;
-    int64_t length = (int64_t)lines.len, place = 0;
-    MPI_Request request;
-    MPI_Comm_split(MPI_COMM_WORLD, 0, me % side * side + me / side, &order);
-    MPI_Iexscan(&length, &place, 1, MPI_INT64_T, MPI_SUM, order, &request);
-    await(&request, 1);
-    if (me == 0) place = 0;
-    if (name) write_to_file(name, head, lines, (off_t)place);
-    else write_out(head, lines, order);
-    MPI_Comm_free(&order);
-    if (head.len) free((void *)head.at);
-    if (lines.len) free((void *)lines.at);
+    write_lines(head, lines, me % side * side + me / side, name);
+}
+
+/* Writes the lines of the vertices of the column in a register, of which the processes have them in order. */
+void write_vertices(uint32_t reg, const char *name) {
+    struct bytes head = {NULL, 0}, lines = {NULL, 0};
+    agree_on(cbgrid_process_vertex_lines(process, reg, &lines), 0);
+    write_lines(head, lines, me, name);
 }

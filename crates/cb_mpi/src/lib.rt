@@ -196,6 +196,94 @@ pub extern "C" fn cbgrid_process_gather(
     code(begun)
 }
 
+/// Copies the matrix in a register to another one.
+#[unsafe(no_mangle)]
+pub extern "C" fn cbgrid_process_copy(
+    alloc: Global,
+    process: Owned,
+    from: u32,
+    to: u32,
+    out: &mut Owned,
+) -> u32
+    requires { IsSome process.kept }
+{
+    let process = take_back(process);
+    let copied = process.copy(alloc, from, to);
+    *out = hand_out(process);
+    code(copied)
+}
+
+/// A process over or-and becomes one over min-plus, with the matrix in a register, in which each entry weighs 1. The code is 3 if it
+/// is over another semiring.
+#[unsafe(no_mangle)]
+pub extern "C" fn cbgrid_process_weigh(
+    alloc: Global,
+    process: Owned,
+    register: u32,
+    out: &mut Owned,
+) -> u32
+    requires { IsSome process.kept }
+{
+    let process = take_back(process);
+    let weighed = process.weigh(alloc, register);
+    *out = hand_out(process);
+    code(weighed)
+}
+
+/// Begins a search from a vertex, counted from 0, in the graph of the matrix in register `graph`, over min-plus: the registers `known`
+/// and `fell` get the numbers of the vertices, and those that fell. The code is 5 if the matrix isn't square, and 3 if it has no such vertex.
+#[unsafe(no_mangle)]
+pub extern "C" fn cbgrid_process_begin_search(
+    alloc: Global,
+    process: Owned,
+    graph: u32,
+    source: u32,
+    known: u32,
+    fell: u32,
+    out: &mut Owned,
+) -> u32
+    requires { IsSome process.kept }
+{
+    let process = take_back(process);
+    let begun = process.begin_search(alloc, graph, source, known, fell);
+    *out = hand_out(process);
+    code(begun)
+}
+
+/// Ends a round of a search, alone: the register `known` gets the numbers after it, and `reached` those of them that fell.
+#[unsafe(no_mangle)]
+pub extern "C" fn cbgrid_process_settle(
+    alloc: Global,
+    process: Owned,
+    known: u32,
+    reached: u32,
+    out: &mut Owned,
+) -> u32
+    requires { IsSome process.kept }
+{
+    let process = take_back(process);
+    let settled = process.settle(alloc, known, reached);
+    *out = hand_out(process);
+    code(settled)
+}
+
+/// The lines of the vertices that the process has of the column in a register. The bytes belong to the caller, unless there are none.
+#[unsafe(no_mangle)]
+pub extern "C" fn cbgrid_process_vertex_lines(
+    alloc: Global,
+    process: Lent,
+    register: u32,
+    lines: &mut Bytes,
+) -> u32 {
+    match borrowed(process).vertex_lines(alloc, register) {
+        Ok(made) => {
+            *lines = Bytes { bytes: made.leak() };
+            DONE
+        }
+        Err(fault) => code_of(fault),
+    }
+}
+
 /// What the process wants: 0 nothing more, 1 to post, 2 to take, 3 to work, 4 to shut a lane, 5 to take a close mark. `other` gets
 /// the rank at the lane's other end.
 #[unsafe(no_mangle)]

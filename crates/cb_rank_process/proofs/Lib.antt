@@ -23,5 +23,6 @@ pub mod TextParts
 pub mod BegunOperations
 -- VertexParts: the lines of a column, rank by rank (`vertex_parts`).
 pub mod VertexParts
--- SearchedBlocks: the blocks of a search (`begins_search`, `makes_round`), and of a matrix of bits (`weighs_bits`).
+-- SearchedBlocks: the blocks of a search (`begins_search`, `makes_round`), and of a matrix of bits (`weighs_bits`); and the lines of a
+-- process (`writes_part`).
 pub mod SearchedBlocks

@@ -2,17 +2,16 @@
 use Rattle.std.proofs.Common.{◌≡◌, ◌≢◌, ℕ, ◌+◌, ◌-◌, ◌*◌, ◌/◌, ◌%◌, ◌<◌, ◌≤◌, ◌⊎◌, inl, ⊎_elim, cond, List, [], length, get_or, set, subst, refl, sym, ap, ◌∙◌, arith}
 use Rattle.std.specs.Prelude.{Option, Some, None, nat_lt}
 use Rattle.std.proofs.lemmas.Bool.{cases_lt}
-
 use Rattle.std.proofs.lemmas.List.{get_or_past, get_or-set_same, get_or-set_other, length-set}
 use Rattle.std.proofs.lemmas.List.Elements.{All-nil}
 use Rattle.cb_matrix.proofs.Pairs.{AllPairs-nil}
 use Rattle.std.proofs.lemmas.Option.{none-some, same_Some}
-use Rattle.cb_semirings.specs.Arithmetic.{IsValue}
+use Rattle.cb_semirings.specs.Arithmetic.{Arithmetic, IsSemiring, IsValue}
 use Rattle.cb_semirings.specs.Tables.{min_plus, or_and}
 use Rattle.cb_matrix.specs.declared.Entry.{Entry}
 use Rattle.cb_matrix.specs.Sparse.{Extent, Sparse, IsBefore, IsInside, IsMatrix, at, value_at}
 use Rattle.cb_matrix.specs.Values.{empty_matrix}
-use Rattle.cb_matrix.specs.Operations.{sum_of}
+use Rattle.cb_matrix.specs.Operations.{placed, sum_of}
 use Rattle.cb_matrix.proofs.Made.{same_matrix}
 use Rattle.cb_grid.specs.Parts.{part, part_length, part_start}
 use Rattle.cb_grid.specs.Blocks.{block_of, part_with, place_in_part}
@@ -25,7 +24,9 @@ use Rattle.cb_searches.proofs.UnitWeights.{weights_there}
 use Rattle.cb_search_columns.proofs.UnitCuts.{cut_weights, distances_levels}
 use Rattle.cb_search_columns.proofs.ColumnRounds.{columns_advanced, columns_begun, columns_ended, reached_shape}
 use Rattle.cb_rank_process.specs.Processes.{KeptView, ProcessView, register_at}
-use Rattle.cb_rank_process.specs.VertexNumbers.{HasBlockOf, HasNextRound, HaveNone, MakesRound, Settles, Weighs, WeighsBits, kept_of, with_register}
+use Rattle.cb_rank_process.specs.VertexNumbers.{BeginsSearch, HasBlockOf, HasNextRound, HaveNone, IsSettled, MakesRound, Settles, Weighs, WeighsBits, WritesPart, WritesVertices, corner_of, kept_of, with_register}
+use Rattle.cb_rank_process.proofs.VertexParts.{vertex_parts}
+use Rattle.cb_market_pages.specs.Text.{vertex_text_of}
 
 -- ---- registers
 -- a register with a matrix is one of those that there are
@@ -92,6 +93,29 @@ begun_columns kept source square vertex a is e =
     let cols : a.shape.cols ≡ kept.shape.cols = ap (λ (d : Extent). d.cols) e in
     subst (λ n. AreSearch a source 0 (source_column n source) (source_column n source)) rows (columns_begun a source is (omega arith) (omega arith))
 
+-- a search that a process begins
+pub begins_search : (x begun y : ProcessView) (graph source known fell : ℕ) (kept a b : KeptView) → register_at x graph ≡ Some kept → kept.shape.rows ≡ kept.shape.cols → source < kept.shape.rows
+    → known < length x.registers → fell < length x.registers → a ≡ kept_of min_plus x (source_column kept.shape.rows source) → b ≡ kept_of min_plus x (source_column kept.shape.rows source)
+    → begun ≡ with_register x known a → y ≡ with_register begun fell b → BeginsSearch graph source known fell x y
+begins_search x begun y graph source known fell kept a b was square vertex l k a_is b_is first second = record {
+  kept = kept;
+  was = was;
+  square = square;
+  vertex = vertex;
+  inside = (l, k);
+  after = second ∙ (λ t. with_register (first t) fell (b_is t)) ∙ ap (λ (n : KeptView). with_register (with_register x known n) fell (kept_of min_plus x (source_column kept.shape.rows source))) a_is;
+  search = begun_columns kept source square vertex;
+}
+
+-- what a process settles
+pub settles : (x begun y : ProcessView) (known reached : ℕ) (sum lower : KeptView) → IsSettled known reached x sum lower → begun ≡ with_register x known sum → y ≡ with_register begun reached lower → Settles known reached x y
+settles x begun y known reached sum lower is first second = record {
+  sum = sum;
+  lower = lower;
+  settled = is;
+  after = second ∙ ap (λ (z : ProcessView). with_register z reached lower) first;
+}
+
 module _ (known reached : ℕ) (x y : ProcessView) (h : Settles known reached x y) where
   module _ (a : Sparse) (source k : ℕ) (numbers fallen : Sparse) (search : AreSearch a source k numbers fallen) (other : known ≢ reached) (fits : x.me < x.side * x.side) (has_known : HasBlockOf min_plus x known numbers) (has_reached : HasBlockOf min_plus x reached (reached_from a fallen)) where
     abbrev values : Sparse
@@ -133,8 +157,8 @@ module _ (known reached : ℕ) (x y : ProcessView) (h : Settles known reached x 
     next_there : HasNextRound a source k numbers values known reached after
     next_there = record {
       search = next;
-      known = first_register x known reached h.sum h.lower other (inside x.registers known h.settled.numbers h.settled.were_numbers) ∙ ap Some numbers_are;
-      fell = last_register x known reached h.sum h.lower (inside x.registers reached h.settled.values h.settled.were_values) ∙ ap Some fell_are;
+      has_numbers = first_register x known reached h.sum h.lower other (inside x.registers known h.settled.numbers h.settled.were_numbers) ∙ ap Some numbers_are;
+      has_fallen = last_register x known reached h.sum h.lower (inside x.registers reached h.settled.values h.settled.were_values) ∙ ap Some fell_are;
       ended = λ none. columns_ended a source (k + 1) (sum_of min_plus numbers values) (lower_values numbers values) next
           (inl (no_entries x.side (some_side x.side x.me fits) (lower_values numbers values) next.fell_matrix none));
     }
@@ -147,18 +171,27 @@ module _ (known reached : ℕ) (x y : ProcessView) (h : Settles known reached x 
 
 -- ---- bits
 -- the block of a matrix of bits is that of the same matrix of weights
-pub weighs_bits : (register : ℕ) (x z y : ProcessView) → (h : Weighs register x z y) → h.kept.shape.rows < infinite → WeighsBits register x z y
+pub weighs_bits : (register : ℕ) (x z y : ProcessView) → (h : Weighs register x z y) → ((k : KeptView) → register_at x register ≡ Some k → k.shape.rows < infinite) → WeighsBits register x z y
 weighs_bits register x z y h small a is square sides ranks has =
     let kept : h.kept ≡ kept_of or_and x a = same_Some h.kept (kept_of or_and x a) (sym h.was ∙ has) in
     let shape : h.kept.shape.rows ≡ a.shape.rows = ap (λ (k : KeptView). k.shape.rows) kept in
+    let below = small h.kept h.was in
     let i = x.me / x.side in
     let j = x.me % x.side in
     let block : block_of or_and x.side a i j ≡ block_of min_plus x.side a i j = cut_weights a is (part x.side a.shape.rows i) (part x.side a.shape.cols j) in
     let all : h.kept ≡ kept_of min_plus z a =
     kept ∙ ap (λ (b : Sparse). let k : KeptView = record { shape = a.shape; block = b } in k) block
-    ∙ (λ t. let k : KeptView = record { shape = a.shape; block = block_of_rank min_plus (sym sides t) a (sym ranks t) } in k) in
-    (
+    ∙ (λ t. let k : KeptView = record { shape = a.shape; block = block_of_rank min_plus (sym sides t) a (sym ranks t) } in k) in (
       weights_there a is,
       subst (λ (v : ProcessView). HasBlockOf min_plus v register a) (sym h.after) (get_or-set_same z.registers register (Some h.kept) None h.inside ∙ ap Some all),
       distances_levels a is square (omega arith),
+    )
+
+-- ---- lines
+-- the lines that a process writes are its part of those of the column
+pub writes_part : (s : Arithmetic) → IsSemiring s → (register : ℕ) (x : ProcessView) (text : List ℕ) → WritesVertices s register x text → WritesPart s register x text
+writes_part s laws register x text h m is one some has =
+    let kept : h.kept ≡ kept_of s x m = same_Some h.kept (kept_of s x m) (sym h.was ∙ has) in (
+      h.lines ∙ ap (λ (k : KeptView). vertex_text_of (placed s k.shape (corner_of x.side k.shape x.me) k.block)) kept,
+      vertex_parts s laws x.side some m is one,
     )

@@ -64,13 +64,16 @@ pub record BeginsSearch (graph source known fell : ℕ) (x y : ProcessView) : Ty
   pub after : y ≡ with_register (with_register x known (kept_of min_plus x (source_column kept.shape.rows source))) fell (kept_of min_plus x (source_column kept.shape.rows source))
   pub search : (a : Sparse) → IsMatrix min_plus a → a.shape ≡ kept.shape → AreSearch a source 0 (source_column kept.shape.rows source) (source_column kept.shape.rows source)
 
--- why no search is begun: there is no graph, no such register or no such rank; the matrix isn't square, or has no such vertex; or memory was
--- refused
+-- a register has a matrix of which this holds
+abbrev pub HasMatrixThat : (Extent → Type 0) → ProcessView → ℕ → Type 0
+HasMatrixThat P x register = (kept : KeptView) × (register_at x register ≡ Some kept) × P kept.shape
+
+-- why no search is begun: there is no graph, no such register, no such rank, or no such vertex; the matrix isn't square; or memory
+-- was refused
 abbrev pub IsSearchFault : ℕ → ℕ → ℕ → ℕ → ProcessView → ProcessFault → Type 0
 IsSearchFault graph source known fell x fault_is.Absent =
-    (register_at x graph ≡ None) ⊎ ((length x.registers ≤ known) ⊎ ((length x.registers ≤ fell) ⊎ (x.side * x.side ≤ x.me)))
-IsSearchFault graph source known fell x fault_is.Shapes =
-    (kept : KeptView) → register_at x graph ≡ Some kept → (kept.shape.rows ≢ kept.shape.cols) ⊎ (kept.shape.rows ≤ source)
+    (register_at x graph ≡ None) ⊎ ((length x.registers ≤ known) ⊎ ((length x.registers ≤ fell) ⊎ ((x.side * x.side ≤ x.me) ⊎ HasMatrixThat (λ d. d.rows ≤ source) x graph)))
+IsSearchFault graph source known fell x fault_is.Shapes = HasMatrixThat (λ d. d.rows ≢ d.cols) x graph
 IsSearchFault graph source known fell x fault_is.Memory = Unit {0}
 IsSearchFault graph source known fell x fault = ⊥
 
@@ -99,8 +102,8 @@ HaveNone s q m = (r : ℕ) → r < q * q → (block_of_rank s q m r).entries ≡
 -- numbers are the distances
 pub record HasNextRound (a : Sparse) (source k : ℕ) (numbers values : Sparse) (known fell : ℕ) (y : ProcessView) : Type 0 where
   pub search : AreNextRound a source k numbers values
-  pub known : HasBlockOf min_plus y known (sum_of min_plus numbers values)
-  pub fell : HasBlockOf min_plus y fell (lower_values numbers values)
+  pub has_numbers : HasBlockOf min_plus y known (sum_of min_plus numbers values)
+  pub has_fallen : HasBlockOf min_plus y fell (lower_values numbers values)
   pub ended : HaveNone min_plus y.side (lower_values numbers values) → AreDistances a source (sum_of min_plus numbers values)
 
 -- Whatever search it is of whose numbers one register has this process's block, and of what its next round reaches the other has

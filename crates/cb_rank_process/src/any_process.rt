@@ -105,6 +105,23 @@ where
     Ok(AnyMessage::from(message))
 }
 
+/// A process over min-plus with the matrix that another one over or-and had in a register, in which each entry weighs 1.
+fn weights_of(
+    alloc: Global,
+    bits: &mut Process<OrAnd>,
+    register: u32,
+) -> Result<Box<Process<MinPlus>>, ProcessFault> {
+    if !bits.is_free() {
+        return Err(ProcessFault::NotNow);
+    }
+    let weights = Process::open(alloc, bits.grid.side(), u32::from(bits.me))?;
+    let Ok(mut weights) = Box::new(alloc, weights) else {
+        return Err(ProcessFault::Memory);
+    };
+    bits.weigh(register, &mut weights)?;
+    Ok(weights)
+}
+
 impl AnyProcess {
     /// Rank `me` of the grid of this side, over the semiring of a name.
     pub fn open(
@@ -134,6 +151,50 @@ impl AnyProcess {
     /// Begins to bring a matrix into the order of its text: [`Process::gather_columns`].
     pub fn gather_columns(&mut self, alloc: Global, register: u32) -> Result<(), ProcessFault> {
         over_process!(self, process => process.gather_columns(alloc, register))
+    }
+
+    /// Copies the matrix in a register to another one: [`Process::copy`].
+    pub fn copy(&mut self, alloc: Global, from: u32, to: u32) -> Result<(), ProcessFault> {
+        over_process!(self, process => process.copy(alloc, from, to))
+    }
+
+    /// Becomes a process over min-plus with the matrix in a register, in which each entry weighs 1: [`Process::weigh`]. Only a
+    /// process over or-and does, and while it does no plan.
+    pub fn weigh(&mut self, alloc: Global, register: u32) -> Result<(), ProcessFault> {
+        let AnyProcess::OrAnd(bits) = self else {
+            return Err(ProcessFault::Absent);
+        };
+        let weights = weights_of(alloc, bits, register)?;
+        *self = AnyProcess::MinPlus(weights);
+        Ok(())
+    }
+
+    /// Begins a search in the graph of a matrix: [`Process::begin_search`]. Only a process over min-plus does.
+    pub fn begin_search(
+        &mut self,
+        alloc: Global,
+        graph: u32,
+        source: u32,
+        known: u32,
+        fell: u32,
+    ) -> Result<(), ProcessFault> {
+        match self {
+            AnyProcess::MinPlus(process) => process.begin_search(alloc, graph, source, known, fell),
+            _ => Err(ProcessFault::Absent),
+        }
+    }
+
+    /// Ends a round of a search: [`Process::settle`]. Only a process over min-plus does.
+    pub fn settle(&mut self, alloc: Global, known: u32, reached: u32) -> Result<(), ProcessFault> {
+        match self {
+            AnyProcess::MinPlus(process) => process.settle(alloc, known, reached),
+            _ => Err(ProcessFault::Absent),
+        }
+    }
+
+    /// The lines of the vertices of a column: [`Process::vertex_lines`].
+    pub fn vertex_lines(&self, alloc: Global, register: u32) -> Result<Vec<u8>, ProcessFault> {
+        over_process!(self, process => process.vertex_lines(alloc, register))
     }
 
     /// The next half of the plan: [`Process::want`].

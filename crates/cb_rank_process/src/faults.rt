@@ -11,11 +11,11 @@ pub enum ProcessFault {
     NotNow,
     /// The half doesn't wait for this letter, or what arrived is no letter.
     Stray,
-    /// There is no such semiring, grid, rank, operation or register, the register has no matrix, or the process was freed.
+    /// There is no such semiring, grid, rank, operation, register or vertex, the register has no matrix, or the process was freed.
     Absent,
     /// The text has a fault, or memory was refused while it was read.
     Text,
-    /// The shapes of the operands don't agree.
+    /// The shapes of the operands don't agree, or the matrix of a graph isn't square.
     Shapes,
     /// The block was lost when memory was refused at this rank.
     Lost(u16),

@@ -46,6 +46,7 @@ impl<S: Semiring> Process<S> {
     /// of the grid have them all.
     ///
     /// Costs a few instructions for each entry, and memory for a copy of the entries besides the text.
+    #[tactic(auto, using(cb_plan_parts::proofs::PartStarts::start_rises, cb_plan_parts::proofs::PartStarts::start_within))]
     pub fn vertex_lines(&self, alloc: Global, register: u32) -> Result<Vec<u8>, ProcessFault>
         ensures lines { IfOk result (λ text. WritesVertices S.arithmetic register self.now text.items) }
         ensures part { IfOk result (λ text. WritesPart S.arithmetic register self.now text.items) }
@@ -59,7 +60,7 @@ impl<S: Semiring> Process<S> {
         };
         let block: &Block<S> = &kept.block;
         let shape = block.shape();
-        if rows.0 + shape.rows() != rows.1 || cols.0 + shape.cols() != cols.1 {
+        if shape.rows() != rows.1 - rows.0 || shape.cols() != cols.1 - cols.0 {
             return Err(ProcessFault::Absent);
         }
         let whole = place(alloc, block, kept.shape, (rows.0, cols.0))?;
@@ -95,7 +96,7 @@ impl Process<MinPlus> {
     /// Begins a search in the graph of the square matrix in a register, which may be transposed: two registers get this process's
     /// blocks of the numbers, and of those that fell, of which only the source has one, 0. Refused, nothing changes.
     ///
-    /// The fault is `Shapes` if the matrix isn't square, or the source is no vertex of it.
+    /// The fault is `Shapes` if the matrix isn't square, and `Absent` if it is but the source is no vertex of it.
     pub fn begin_search(
         &mut self,
         alloc: Global,
@@ -115,8 +116,11 @@ impl Process<MinPlus> {
             return Err(ProcessFault::Absent);
         };
         let shape = kept.shape;
-        if shape.rows() != shape.cols() || source >= shape.rows() {
+        if shape.rows() != shape.cols() {
             return Err(ProcessFault::Shapes);
+        }
+        if source >= shape.rows() {
+            return Err(ProcessFault::Absent);
         }
         let numbers = self.first_numbers(alloc, shape, source)?;
         let fallen = self.first_numbers(alloc, shape, source)?;

@@ -4,7 +4,7 @@ use cb_messages::Message;
 use cb_operations::Operation;
 use cb_rank::Want;
 use cb_rank_process::{Process, opening_length};
-use cb_semirings::SemiringName;
+use cb_semirings::{MinPlus, OrAnd, SemiringName};
 use std::alloc::Global;
 
 /// The most rounds in which each process does at most one half.
@@ -151,12 +151,17 @@ impl<S: Based> Crew<S> {
         self.finish(alloc, register)
     }
 
-    /// Computes an operation, and keeps the answer in register 0.
-    pub(crate) fn operate(&mut self, alloc: Global, operation: Operation) -> Option<()> {
+    /// Computes an operation, and keeps the answer in a register.
+    fn compute(&mut self, alloc: Global, operation: Operation, register: u32) -> Option<()> {
         for n in 0..self.processes.len() {
             self.processes[n].operate(alloc, operation).ok()?;
         }
-        self.finish(alloc, 0)
+        self.finish(alloc, register)
+    }
+
+    /// Computes an operation, and keeps the answer in register 0.
+    pub(crate) fn operate(&mut self, alloc: Global, operation: Operation) -> Option<()> {
+        self.compute(alloc, operation, 0)
     }
 
     /// The text of the matrix in a register.
@@ -178,6 +183,71 @@ impl<S: Based> Crew<S> {
                 let lines = process.lines(alloc, register).ok()?;
                 text.extend_from_slice(&lines).ok()?;
             }
+        }
+        Some(text)
+    }
+}
+
+impl Crew<OrAnd> {
+    /// Moves the matrix in register 0 to processes over min-plus.
+    pub(crate) fn weigh(&mut self, weights: &mut Crew<MinPlus>) -> Option<()> {
+        for n in 0..self.processes.len() {
+            let process = weights.processes.get_mut(n)?;
+            self.processes[n].weigh(0, process).ok()?;
+        }
+        Some(())
+    }
+}
+
+/// The registers of a search: what fell, the edges, and the numbers.
+const FELL: u32 = 1;
+
+const EDGES: u32 = 2;
+
+const KNOWN: u32 = 3;
+
+impl Crew<MinPlus> {
+    /// Begins a search in the graph in register 0.
+    fn begin(&mut self, alloc: Global, source: u32) -> Option<()> {
+        for n in 0..self.processes.len() {
+            self.processes[n]
+                .begin_search(alloc, 0, source, KNOWN, FELL)
+                .ok()?;
+        }
+        self.compute(alloc, Operation::Transpose, EDGES)
+    }
+
+    /// Makes a round, and says whether a number fell in the one before.
+    fn make_round(&mut self, alloc: Global) -> Option<bool> {
+        let mut fallen = 0u64;
+        for process in &self.processes {
+            fallen = fallen.saturating_add(process.entry_count(FELL).ok()?);
+        }
+        if fallen == 0 {
+            return Some(false);
+        }
+        for n in 0..self.processes.len() {
+            self.processes[n].copy(alloc, EDGES, 0).ok()?;
+        }
+        self.compute(alloc, Operation::MultiplyVector, FELL)?;
+        for n in 0..self.processes.len() {
+            self.processes[n].settle(alloc, KNOWN, FELL).ok()?;
+        }
+        Some(true)
+    }
+
+    /// The lines of the distances from a source, in the graph in register 0.
+    pub(crate) fn distances(&mut self, alloc: Global, source: u32) -> Option<Vec<u8>> {
+        self.begin(alloc, source)?;
+        for _ in 0..ROUNDS {
+            if !self.make_round(alloc)? {
+                break;
+            }
+        }
+        let mut text = Vec::new(alloc);
+        for process in &self.processes {
+            let lines = process.vertex_lines(alloc, KNOWN).ok()?;
+            text.extend_from_slice(&lines).ok()?;
         }
         Some(text)
     }

@@ -9,3 +9,5 @@ mod calls;
 mod crews;
 #[cfg(test)]
 mod refusals;
+#[cfg(test)]
+mod searches;
