@@ -131,3 +131,24 @@ fn refuses(alloc: Global) -> Option<bool> {
 fn a_search_that_cannot_be_is_refused(rt: HostRuntime) {
     assert!(rt; refuses(rt.alloc()) == Some(true));
 }
+
+/// Whether a round ends, if not at the first call, which changes nothing if memory is refused, then at the second.
+fn settles(alloc: Global) -> Option<bool> {
+    let mut crew = Crew::<MinPlus>::open(alloc, SemiringName::MinPlus, 1, 1)?;
+    crew.read(alloc, 0, ROADS)?;
+    let process = crew.processes.get_mut(0)?;
+    process.begin_search(alloc, 0, 4, 2, 3).ok()?;
+    if process.settle(alloc, 2, 3).is_err() {
+        let is_kept = matches!(process.entry_count(2), Ok(1))
+            && matches!(process.entry_count(3), Ok(1));
+        if !is_kept || process.settle(alloc, 2, 3).is_err() {
+            return Some(false);
+        }
+    }
+    Some(matches!(process.entry_count(2), Ok(1)) && matches!(process.entry_count(3), Ok(0)))
+}
+
+#[test]
+fn a_round_that_is_refused_memory_changes_nothing(rt: HostRuntime) {
+    assert!(rt; settles(rt.alloc()) != Some(false));
+}
