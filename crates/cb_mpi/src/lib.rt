@@ -5,9 +5,9 @@
 //! calls in any order: a wrong one is refused, and breaks no promise. No call waits, starts a thread or takes a lock.
 //!
 //! A call returns 0 if it is done, and otherwise the code of a fault: 1 if another call is next, 2 for a letter that isn't awaited
-//! or is broken, 3 for what isn't there (a semiring, a grid, a rank, an operation, a register or its matrix, a process that was
-//! freed), 4 for a text with a fault, 5 for shapes that don't agree, 6 for a block that was lost when memory was refused at a rank,
-//! 7 if memory was refused.
+//! or is broken, 3 for what isn't there (a semiring, a grid, a rank, an operation, a register or its matrix, a vertex, a process that
+//! was freed), 4 for a text with a fault, 5 for shapes that don't agree or a graph's matrix that isn't square, 6 for a block that was
+//! lost when memory was refused at a rank, 7 if memory was refused.
 //!
 //! `semiring` is a number of `cb_semirings::SemiringName`: 0 (plus-times), 1 (min-plus), 2 (or-and), 3 (max-min), and so on.
 #![tactic(auto)]
