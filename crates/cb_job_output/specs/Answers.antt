@@ -1,17 +1,19 @@
 -- The text of an answer, and how a task ends before this text is written.
-use Rattle.std.specs.Prelude.{ℕ, ◌≡◌, ◌≢◌, ◌++◌, List, [], ◌∷◌, Result, IfOk, IfErr, string_bytes}
+use Rattle.std.specs.Prelude.{ℕ, ◌≢◌, ◌++◌, List, [], ◌∷◌, Result, IfOk, IfErr, string_bytes}
 use Rattle.cb_semirings.specs.Arithmetic.{Arithmetic}
-use Rattle.cb_market_pages.specs.Text.{text_of, number_line}
+use Rattle.cb_market_pages.specs.declared.line_forms.LineForm.TheVariants.{RowAndValue}
+use Rattle.cb_market_pages.specs.Text.{text_of, number_line, lines_in}
 use Rattle.cb_job_ends.specs.declared.faults.JobFault.{JobFault}
 use Rattle.cb_job_ends.specs.declared.faults.JobFault.TheVariants.{Memory, Output}
 use Rattle.cb_job_output.specs.declared.answers.Answer.{Answer}
-use Rattle.cb_job_output.specs.declared.answers.Answer.TheVariants.{Matrix, Blocks, Lines, Number}
+use Rattle.cb_job_output.specs.declared.answers.Answer.TheVariants.{Matrix, Blocks, Column, Counts, Number}
 
--- the text of an answer over a semiring
+-- the text of an answer over a semiring: that of a matrix, the lines of a column, or a line with a number
 abbrev pub text_of_answer : {S : Type 0} → Arithmetic → Answer S → List ℕ
 text_of_answer s (Matrix m) = text_of s m
 text_of_answer s (Blocks m lines) = text_of s m.matrix ++ string_bytes lines
-text_of_answer s (Lines text) = text.items
+text_of_answer s (Column column form) = lines_in form column.entries
+text_of_answer s (Counts column) = lines_in RowAndValue column.entries
 text_of_answer s (Number n) = number_line (n ∷ [])
 
 -- Either there is an answer with a right text, and it would be right that memory or the sink didn't suffice to write it; or a

@@ -4,12 +4,14 @@ ghost use Rattle.cb_market_pages.specs.Text.{number_line};
 ghost use Rattle.cb_job_ends.specs.WriteEnds.{IsTextEnd};
 ghost use Rattle.cb_job_output.specs.Answers.{text_of_answer};
 
-use crate::output::{put_blocks_and_lines, put_bytes, put_matrix};
+use crate::output::{put_blocks_and_lines, put_bytes, put_column, put_matrix};
 use cb_bases::Based;
+use cb_dcsc::Block;
 use cb_job_ends::faults::JobFault;
 use cb_job_ends::sinks::Sink;
 use cb_layout::{DistributedMatrix, PanelledMatrix};
-use cb_semirings::Semiring;
+use cb_market_pages::LineForm;
+use cb_semirings::{MinPlus, PlusTimes, Semiring};
 use std::alloc::Global;
 use std::thread::Threads;
 
@@ -20,8 +22,10 @@ pub enum Answer<S: Semiring> {
     Matrix(PanelledMatrix<S>),
     /// A matrix over a grid, and lines that follow its text.
     Blocks(DistributedMatrix<S>, String),
-    /// A text that is made already, with a line for each vertex.
-    Lines(Vec<u8>),
+    /// A column with a number or a vertex for each vertex that has one, and the form of its lines.
+    Column(Block<MinPlus>, LineForm),
+    /// A column with a count for each vertex, row or column that has one. A line has both.
+    Counts(Block<PlusTimes>),
     /// A number, which stands on a line.
     Number(u64),
 }
@@ -37,8 +41,8 @@ fn put_number<K: Sink>(alloc: Global, number: u64, out: &mut K) -> Result<(), Jo
     }
 }
 
-/// Writes the text of an answer, and frees the answer. This many threads make the lines of a matrix, and the caller's writes
-/// them; or it does both, if it is alone or the entries are few.
+/// Writes the text of an answer, and frees the answer. This many threads make the lines of a matrix or a column, and the
+/// caller's writes them; or it does both, if it is alone or the entries are few.
 ///
 /// All memory is taken first: at `Memory` nothing has been written. At `Output` the sink has failed, which it has in no other
 /// case, and a beginning of the text has been written.
@@ -57,7 +61,10 @@ pub fn put_answer<S: Based + Send + Sync, R: Threads + Sync, K: Sink>(
         Answer::Blocks(matrix, lines) => {
             put_blocks_and_lines(rt, alloc, threads, matrix, lines.as_bytes(), out)
         }
-        Answer::Lines(text) => put_bytes(&text, out),
+        Answer::Column(column, form) => put_column(rt, alloc, threads, column, form, out),
+        Answer::Counts(column) => {
+            put_column(rt, alloc, threads, column, LineForm::RowAndValue, out)
+        }
         Answer::Number(number) => put_number(alloc, number, out),
     }
 }

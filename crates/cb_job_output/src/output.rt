@@ -1,8 +1,8 @@
-//! Writes the text of a matrix. One thread writes it page by page. Several write it in rounds: while one round is written to
+//! Writes the text of a matrix or a column. One thread writes it page by page. Several write it in rounds: while one round is written to
 //! the sink, the next is made. The thread that writes to the sink then makes shares too, as many as are left for it.
 ghost use Rattle.std.specs.Prelude.{◌≡◌, ℕ, ◌+◌, ◌<◌, ◌++◌, [], List, length, true, false, All, IfOk, IfSome, OnOk, OnErr};
 ghost use Rattle.std.specs.Io.KnownBytes.{Appends};
-ghost use Rattle.cb_market_pages.specs.Text.{text_of};
+ghost use Rattle.cb_market_pages.specs.Text.{lines_in, text_of};
 ghost use Rattle.cb_job_output.specs.Rounds.{joined, AreOf, AreAllOf};
 ghost use Rattle.cb_job_ends.specs.Sinks.{AppendsPrefix};
 ghost use Rattle.cb_job_ends.specs.WriteEnds.{IsTextEnd, end_of_put};
@@ -10,13 +10,14 @@ ghost use Rattle.cb_job_ends.specs.WriteEnds.{IsTextEnd, end_of_put};
 use crate::rounds::{Dealt, FEW, Form, Round};
 use crate::stacks::Stack;
 use cb_bases::Based;
+use cb_dcsc::Block;
 use cb_job_ends::faults::JobFault;
 use cb_job_ends::sinks::{PutFault, Sink, put_all};
 use cb_job_threads::apart::each_apart;
 use cb_job_threads::gates::{Gate, OpenGate};
 use cb_job_threads::turns::Turns;
 use cb_layout::{DistributedMatrix, PanelledMatrix};
-use cb_market_pages::{Page, Share, Sheet, TextPages};
+use cb_market_pages::{LineForm, Page, Share, Sheet, TextPages};
 use cb_semirings::Semiring;
 use std::alloc::{AllocError, Global};
 use std::thread::Threads;
@@ -382,6 +383,21 @@ fn put_panels<S: Semiring + Send + Sync, R: Threads + Sync, K: Sink>(
     let put = put_text(rt, alloc, threads, TextPages::of_panels(&matrix), out);
     matrix.free(rt, alloc);
     put
+}
+
+/// Writes the lines of a column in a form, with the same faults, and then frees the column.
+pub(crate) fn put_column<S: Semiring + Send + Sync, R: Threads + Sync, K: Sink>(
+    rt: &R,
+    alloc: Global,
+    threads: u32,
+    column: Block<S>,
+    form: LineForm,
+    out: &mut K,
+) -> Result<(), JobFault>
+    requires { K.has_failed out.old ≡ false }
+    ensures { IsTextEnd (lines_in form column.entries) (K.written out.old) (K.written out.new) (K.has_failed out.new) result }
+{
+    put_text(rt, alloc, threads, TextPages::lines_in(&column, form), out)
 }
 
 /// Writes the text of a matrix over a grid and some lines after it, with the same faults, and then frees the matrix.

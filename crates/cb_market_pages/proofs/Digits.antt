@@ -1,7 +1,7 @@
 -- How many digits a number has in decimal.
-use Rattle.std.proofs.Common.{◌≡◌, ℕ, ◌+◌, ◌/◌, ◌%◌, ◌∷◌, [], ◌<◌, ◌≤◌, ◌^◌, ap, arith, length, length-append, ◌∙◌}
+use Rattle.std.proofs.Common.{◌≡◌, ℕ, ◌+◌, ◌/◌, ◌%◌, ◌∷◌, ◌++◌, [], ◌<◌, ◌≤◌, ◌^◌, ap, arith, length, length-append, sym, ◌∙◌}
 use Rattle.std.specs.Prelude.{decimal}
-use Rattle.std.proofs.lemmas.Fmt.{decimal_digit, decimal_step}
+use Rattle.std.proofs.lemmas.Fmt.{decimal_digit, decimal_step, decimal_step_wide}
 
 -- a number below ten has one
 pub has_one : (n : ℕ) → n < 10 → length (decimal n) ≡ 1
@@ -46,3 +46,7 @@ has_four n h k =
     let e = digit_more n (omega arith) (omega arith) in
     let f = has_three (n / 10) (omega arith) (omega arith) in
     omega (arith, e, f)
+
+-- the number after the last one of 64 bits ends in 6
+pub past_last : (n : ℕ) → n ≡ 18446744073709551615 → decimal (n / 10) ++ 54 ∷ [] ≡ decimal (n + 1)
+past_last n e = rw e (sym (decimal_step_wide 18446744073709551616 (omega arith) (omega arith)))

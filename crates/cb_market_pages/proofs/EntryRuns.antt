@@ -1,15 +1,16 @@
 -- Runs of entries that are removed one after the other.
 use Rattle.std.proofs.Common.{◌≡◌, ℕ, zero, suc, Bool, true, false, ◌+◌, ◌<◌, ◌≤◌, List, [], ◌∷◌, ◌++◌, length, min, take, drop, get_or, add-one, append-nil, refl, ap, sym, ◌∙◌, arith, append_assoc, length-append}
 use Rattle.std.specs.Prelude.{codes, decimal, flat_map}
-use Rattle.std.proofs.lemmas.List.{take-append-drop, drop_min, length-take-le}
+use Rattle.std.proofs.lemmas.List.{take-append-drop, drop_min}
 use Rattle.std.proofs.lemmas.List.Concat.{flat_map-append}
 use Rattle.cb_semirings.specs.Arithmetic.{Arithmetic}
 use Rattle.cb_matrix.specs.declared.Entry.{Entry}
 use Rattle.cb_matrix.specs.Sparse.{Extent}
 use Rattle.cb_dcsc.specs.Compressed.{entries_in}
 use Rattle.cb_layout.specs.Segments.{shifted}
-use Rattle.cb_market_pages.specs.Text.{entry_line, column_lines, number_line, head_of, header_line, text_left}
-use Rattle.cb_market_pages.specs.Sheets.{lines_of}
+use Rattle.cb_market_pages.specs.declared.line_forms.LineForm.{LineForm}
+use Rattle.cb_market_pages.specs.declared.line_forms.LineForm.TheVariants.{Place, PlaceAndValue, RowAndValue, RowAndVertex}
+use Rattle.cb_market_pages.specs.Text.{line_in, lines_in, column_lines, number_line, head_of, header_line, text_left}
 
 -- the first entries of a segment and the others are all of it
 pub shifted_parts : (top column : ℕ) (rows values : List ℕ) (n : ℕ) → length values ≡ length rows → shifted top column (take n rows) (take n values) ++ shifted top column (drop n rows) (drop n values) ≡ shifted top column rows values
@@ -38,24 +39,24 @@ shifted_more top column (i ∷ is) (v ∷ vs) (suc n) e l =
     ap (λ es. record { row = top + i; column = column; value = v } ∷ es) (shifted_more top column is vs n (omega arith) (omega arith))
 
 -- the lines of the first entries of a column, and of one more
-pub one_line_more : (b : Bool) (start page page' : List ℕ) (top column : ℕ) (rows values : List ℕ) (n : ℕ) → length values ≡ length rows → n < length rows
-    → page ≡ start ++ column_lines b top column (take n rows) (take n values) → page' ≡ page ++ entry_line b (record { row = top + get_or rows n 0; column = column; value = get_or values n 0 })
-    → page' ≡ start ++ column_lines b top column (take (n + 1) rows) (take (n + 1) values)
-one_line_more b start page page' top column rows values n e l p p' =
+pub one_line_more : (form : LineForm) (start page page' : List ℕ) (top column : ℕ) (rows values : List ℕ) (n : ℕ) → length values ≡ length rows → n < length rows
+    → page ≡ start ++ column_lines form top column (take n rows) (take n values) → page' ≡ page ++ line_in form (record { row = top + get_or rows n 0; column = column; value = get_or values n 0 })
+    → page' ≡ start ++ column_lines form top column (take (n + 1) rows) (take (n + 1) values)
+one_line_more form start page page' top column rows values n e l p p' =
     let last : Entry = record { row = top + get_or rows n 0; column = column; value = get_or values n 0 } in
     let run = shifted top column (take n rows) (take n values) in
-    let line = entry_line b in
+    let line = line_in form in
     let more : shifted top column (take (n + 1) rows) (take (n + 1) values) ≡ run ++ last ∷ [] =
     ap (λ m. shifted top column (take m rows) (take m values)) (add-one n) ∙ shifted_more top column rows values n e l in
     let lines : flat_map line (run ++ last ∷ []) ≡ flat_map line run ++ line last = flat_map-append line run (last ∷ []) ∙ ap (λ bytes. flat_map line run ++ bytes) (append-nil (line last)) in
     p' ∙ ap (λ bytes. bytes ++ line last) p ∙ append_assoc start (flat_map line run) (line last) ∙ ap (λ bytes. start ++ bytes) (sym (ap (flat_map line) more ∙ lines))
 
 -- a run is written, and more is left
-pub append_run : (s : Arithmetic) (page page' : List ℕ) (run more all : List Entry) → all ≡ run ++ more → page' ≡ page ++ lines_of s run → page' ++ lines_of s more ≡ page ++ lines_of s all
-append_run s page page' run more all a p =
-    ap (λ bytes. bytes ++ lines_of s more) p
-    ∙ append_assoc page (lines_of s run) (lines_of s more)
-    ∙ ap (λ bytes. page ++ bytes) (sym (flat_map-append (entry_line s.writes_pattern) run more) ∙ ap (lines_of s) (sym a))
+pub append_run : (form : LineForm) (page page' : List ℕ) (run more all : List Entry) → all ≡ run ++ more → page' ≡ page ++ lines_in form run → page' ++ lines_in form more ≡ page ++ lines_in form all
+append_run form page page' run more all a p =
+    ap (λ bytes. bytes ++ lines_in form more) p
+    ∙ append_assoc page (lines_in form run) (lines_in form more)
+    ∙ ap (λ bytes. page ++ bytes) (sym (flat_map-append (line_in form) run more) ∙ ap (lines_in form) (sym a))
 
 -- the first entries of a run and what follows it
 take_run : (run more : List Entry) (left m : ℕ) → length run + m ≡ left → take left (run ++ more) ≡ run ++ take m more
@@ -77,27 +78,29 @@ pub length_run : (run more all : List Entry) → all ≡ run ++ more → length 
 length_run run more all a = ap length a ∙ length-append run more
 
 -- writing a run
-pub write_run : (s : Arithmetic) (page page' : List ℕ) (run more all : List Entry) (left m : ℕ) → all ≡ run ++ more → length run + m ≡ left → page' ≡ page ++ lines_of s run → page' ++ lines_of s (take m more) ≡ page ++ lines_of s (take left all)
-write_run s page page' run more all left m a e p =
-    let line = entry_line s.writes_pattern in
-    ap (λ bytes. bytes ++ lines_of s (take m more)) p
-    ∙ append_assoc page (lines_of s run) (lines_of s (take m more))
-    ∙ ap (λ bytes. page ++ bytes) (sym (flat_map-append line run (take m more)) ∙ ap (lines_of s) (sym (ap (take left) a ∙ take_run run more left m e)))
+pub write_run : (form : LineForm) (page page' : List ℕ) (run more all : List Entry) (left m : ℕ) → all ≡ run ++ more → length run + m ≡ left → page' ≡ page ++ lines_in form run → page' ++ lines_in form (take m more) ≡ page ++ lines_in form (take left all)
+write_run form page page' run more all left m a e p =
+    let line = line_in form in
+    ap (λ bytes. bytes ++ lines_in form (take m more)) p
+    ∙ append_assoc page (lines_in form run) (lines_in form (take m more))
+    ∙ ap (λ bytes. page ++ bytes) (sym (flat_map-append line run (take m more)) ∙ ap (lines_in form) (sym (ap (take left) a ∙ take_run run more left m e)))
 
 -- the head and the lines of the first entries are removed from a text
-pub part_taken : (s : Arithmetic) (text head page : List ℕ) (all first rest : List Entry) (most count : ℕ) → head ++ lines_of s all ≡ text → page ≡ head → first ≡ all → rest ≡ drop most all → count ≡ min most (length all)
-    → text ≡ (page ++ lines_of s (take count first)) ++ lines_of s rest
-part_taken s text head page all first rest most count t p f r c =
-    let line = entry_line s.writes_pattern in
+pub part_taken : (form : LineForm) (text head page : List ℕ) (all first rest : List Entry) (most count : ℕ) → head ++ lines_in form all ≡ text → page ≡ head → first ≡ all → rest ≡ drop most all → count ≡ min most (length all)
+    → text ≡ (page ++ lines_in form (take count first)) ++ lines_in form rest
+part_taken form text head page all first rest most count t p f r c =
+    let line = line_in form in
     let others : rest ≡ drop count all = r ∙ sym (drop_min most all) ∙ ap (λ n. drop n all) (sym c) in
-    let whole : lines_of s (take count first) ++ lines_of s rest ≡ lines_of s all =
-    (λ i. lines_of s (take count (f i)) ++ lines_of s (others i)) ∙ sym (flat_map-append line (take count all) (drop count all)) ∙ ap (lines_of s) (take-append-drop count all) in
-    sym t ∙ (λ i. sym p i ++ sym whole i) ∙ sym (append_assoc page (lines_of s (take count first)) (lines_of s rest))
+    let whole : lines_in form (take count first) ++ lines_in form rest ≡ lines_in form all =
+    (λ i. lines_in form (take count (f i)) ++ lines_in form (others i)) ∙ sym (flat_map-append line (take count all) (drop count all)) ∙ ap (lines_in form) (take-append-drop count all) in
+    sym t ∙ (λ i. sym p i ++ sym whole i) ∙ sym (append_assoc page (lines_in form (take count first)) (lines_in form rest))
 
 -- a line has some bytes
-length-line : (b : Bool) (e : Entry) → 0 < length (entry_line b e)
-length-line true e = let a = length-append (decimal (e.row + 1)) (32 ∷ number_line ((e.column + 1) ∷ [])) in omega arith
-length-line false e = let a = length-append (decimal (e.row + 1)) (32 ∷ number_line ((e.column + 1) ∷ e.value ∷ [])) in omega arith
+length-line : (form : LineForm) (e : Entry) → 0 < length (line_in form e)
+length-line Place e = let a = length-append (decimal (e.row + 1)) (32 ∷ number_line ((e.column + 1) ∷ [])) in omega arith
+length-line PlaceAndValue e = let a = length-append (decimal (e.row + 1)) (32 ∷ number_line ((e.column + 1) ∷ e.value ∷ [])) in omega arith
+length-line RowAndValue e = let a = length-append (decimal (e.row + 1)) (32 ∷ number_line (e.value ∷ [])) in omega arith
+length-line RowAndVertex e = let a = length-append (decimal (e.row + 1)) (32 ∷ number_line ((e.value + 1) ∷ [])) in omega arith
 
 -- a head has some bytes
 length-head : (b : Bool) (shape : Extent) (count : ℕ) → 0 < length (head_of b shape count)
@@ -113,15 +116,15 @@ length-head false shape count =
     omega (arith, a, b)
 
 -- and so have a head and the lines of some entries, if there is one or the other
-pub length-share : (s : Arithmetic) (has_head : Bool) (shape : Extent) (len : ℕ) (entries : List Entry) (count : ℕ) → count ≤ length entries → (has_head ≡ false → count ≡ 0 → ⊥)
-    → 0 < length (text_left s has_head shape len (take count entries))
-length-share s true shape len entries count c some =
-    let a = length-append (head_of s.writes_pattern shape len) (lines_of s (take count entries)) in
+pub length-share : (s : Arithmetic) (form : LineForm) (has_head : Bool) (shape : Extent) (len : ℕ) (entries : List Entry) (count : ℕ) → count ≤ length entries → (has_head ≡ false → count ≡ 0 → ⊥)
+    → 0 < length (text_left s form has_head shape len (take count entries))
+length-share s form true shape len entries count c some =
+    let a = length-append (head_of s.writes_pattern shape len) (lines_in form (take count entries)) in
     let b = length-head s.writes_pattern shape len in
     omega (arith, a, b)
-length-share s false shape len entries zero c some = absurd (some refl refl)
-length-share s false shape len [] (suc n) c some = absurd (omega (arith, c))
-length-share s false shape len (e ∷ es) (suc n) c some =
-    let b = length-append (entry_line s.writes_pattern e) (lines_of s (take n es)) in
-    let d = length-line s.writes_pattern e in
+length-share s form false shape len entries zero c some = absurd (some refl refl)
+length-share s form false shape len [] (suc n) c some = absurd (omega (arith, c))
+length-share s form false shape len (e ∷ es) (suc n) c some =
+    let b = length-append (line_in form e) (lines_in form (take n es)) in
+    let d = length-line form e in
     omega (arith, b, d)

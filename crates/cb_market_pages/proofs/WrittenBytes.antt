@@ -1,10 +1,12 @@
 -- What is written on a page.
-use Rattle.std.proofs.Common.{◌≡◌, ℕ, zero, suc, ◌+◌, ◌<◌, ◌≤◌, Bool, true, false, List, [], ◌∷◌, ◌++◌, length, take, drop, set, arith, ap, sym, refl, ◌∙◌, append_assoc, length-append, length-drop}
+use Rattle.std.proofs.Common.{◌≡◌, ℕ, zero, suc, ◌+◌, ◌<◌, ◌≤◌, List, [], ◌∷◌, ◌++◌, length, take, drop, set, arith, ap, sym, refl, ◌∙◌, append_assoc, length-append, length-drop}
 use Rattle.std.specs.Prelude.{decimal}
 use Rattle.std.proofs.lemmas.List.{take-append-drop, take_at, take_more_set, length-take-le}
 use Rattle.std.proofs.lemmas.Slice.{take-put_mid}
 use borrow.Rule.Slice.PartMut.{put_mid}
-use Rattle.cb_market_pages.specs.Text.{entry_line, line_with}
+use Rattle.cb_market_pages.specs.declared.line_forms.LineForm.{LineForm}
+use Rattle.cb_market_pages.specs.declared.line_forms.LineForm.TheVariants.{Place, PlaceAndValue, RowAndValue, RowAndVertex}
+use Rattle.cb_market_pages.specs.Text.{line_in, line_with}
 
 -- a byte after some bytes
 pub with_byte : (bytes : List ℕ) (some : List ℕ) (end last after : ℕ) → last ≡ end + 1 → end < length bytes → take end bytes ≡ some → take last (set bytes end after) ≡ some ++ after ∷ []
@@ -39,9 +41,11 @@ bytes_put bytes part some old start count end last after p m e l k o =
     rw p (with_byte (put_mid start count bytes some) (old ++ some) end last after l (omega (arith, length-put start count bytes some (omega arith) m)) (take-put_mid start count bytes some end e (omega arith) ∙ ap (λ x. x ++ some) o))
 
 -- the line of an entry, by the digits of its column
-pub same_line : (b : Bool) (row top i column value : ℕ) (digits : List ℕ) → row ≡ top + i + 1 → digits ≡ decimal (column + 1) → line_with b row digits value ≡ entry_line b (record { row = top + i; column = column; value = value })
-same_line true row top i column value digits r d = rw (r, d) refl
-same_line false row top i column value digits r d = rw (r, d) refl
+pub same_line : (form : LineForm) (row top i column value : ℕ) (digits : List ℕ) → row ≡ top + i + 1 → digits ≡ decimal (column + 1) → line_with form row digits value ≡ line_in form (record { row = top + i; column = column; value = value })
+same_line Place row top i column value digits r d = rw (r, d) refl
+same_line PlaceAndValue row top i column value digits r d = rw (r, d) refl
+same_line RowAndValue row top i column value digits r d = rw r refl
+same_line RowAndVertex row top i column value digits r d = rw r refl
 
 -- a page that had room has it until a line is written
 pub first_line : (n : ℕ) (page old : List ℕ) → (n ≡ 0 → page ≡ old) → length old + 63 ≤ 65536 → (length page + 63 ≤ 65536 → ⊥) → 0 < n

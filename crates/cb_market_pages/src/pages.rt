@@ -69,6 +69,15 @@ impl Page {
         self.end = put_number(&mut self.bytes, self.end, number, after);
     }
 
+    /// Writes the number after a number, and a byte after it.
+    pub(crate) fn put_next(&mut self, number: u64, after: u8)
+        requires room { length self.old + 21 ≤ SIZE }
+        ensures written { self.new ≡ self.old ++ decimal (number + 1) ++ after ∷ [] }
+        ensures length { length self.new ≤ length self.old + 21 }
+    {
+        self.end = put_next_number(&mut self.bytes, self.end, number, after);
+    }
+
     /// Writes some bytes and a byte after them.
     pub(crate) fn append(&mut self, bytes: &[u8], after: u8)
         requires { length self.old + length bytes.now < SIZE }
@@ -89,6 +98,20 @@ pub(crate) fn put_number(buffer: &mut [u8], at: usize, number: u64, after: u8) -
     write_digits(number, buffer, end);
     buffer[end] = after;
     end + 1
+}
+
+/// Writes the number after a number, and a byte after it, at an offset, and returns the offset after them.
+pub(crate) fn put_next_number(buffer: &mut [u8], at: usize, number: u64, after: u8) -> usize
+    requires { at + 21 ≤ length buffer.old }
+    ensures written { take result buffer.new ≡ take at buffer.old ++ decimal (number + 1) ++ after ∷ [] }
+    ensures limit { result ≤ at + 21 }
+{
+    if number < u64::MAX {
+        return put_number(buffer, at, number + 1, after);
+    }
+    // 18446744073709551616, which has the digits of a tenth of it before its last.
+    let end = put_number(buffer, at, number / 10, b'6');
+    put_bytes(buffer, end, &[], after)
 }
 
 /// Writes some bytes and a byte after them at an offset, and returns the offset after them.

@@ -1,10 +1,10 @@
 //! Runs of entries of one column, and their lines in a buffer.
 ghost use Rattle.std.specs.Prelude.{◌≡◌, ℕ, ◌+◌, ◌*◌, ◌^◌, ◌≤◌, ◌<◌, [], ◌++◌, length, take, drop, min, vec_len, vec_capacity, IfSome, IfNone};
 ghost use Rattle.cb_layout.specs.Segments.{entries_of};
-ghost use Rattle.cb_market_pages.specs.Sheets.{lines_of};
-ghost use Rattle.cb_market_pages.specs.Text.{column_lines, segment_lines, line_with};
+ghost use Rattle.cb_market_pages.specs.Text.{column_lines, segment_lines, line_with, lines_in};
 
-use crate::pages::{put_bytes, put_number};
+use crate::LineForm;
+use crate::pages::{put_bytes, put_next_number, put_number};
 use crate::text_pages::{EntriesLeft, begun, rest_of};
 use cb_layout::Segment;
 use cb_semirings::Semiring;
@@ -58,10 +58,16 @@ impl<'a, S: Semiring> EntriesLeft<'a, S> {
 
     /// Writes the lines of the next entries, at most this many, at an offset of the buffer, and returns the offset after
     /// them. The buffer has room for these lines, and gets longer as they are written.
-    pub(crate) fn put_first(&mut self, buffer: &mut Vec<u8>, start: usize, most: usize) -> usize
+    pub(crate) fn put_first(
+        &mut self,
+        buffer: &mut Vec<u8>,
+        start: usize,
+        form: LineForm,
+        most: usize,
+    ) -> usize
         requires start { start ≤ vec_len buffer.old }
         requires room { start + most * LONGEST_LINE ≤ vec_capacity buffer.old }
-        ensures lines { take result buffer.new.items ≡ take start buffer.old.items ++ lines_of S.arithmetic (take most self.old) }
+        ensures lines { take result buffer.new.items ≡ take start buffer.old.items ++ lines_in form (take most self.old) }
         ensures limit { result ≤ start + most * LONGEST_LINE }
         ensures length { (result ≤ vec_len buffer.new) × (vec_len buffer.old ≤ vec_len buffer.new) }
         ensures capacity { vec_capacity buffer.old ≤ vec_capacity buffer.new }
@@ -74,7 +80,7 @@ impl<'a, S: Semiring> EntriesLeft<'a, S> {
             };
             left -= run.rows.len();
             lengthen(buffer, end + run.rows.len() * LONGEST_LINE);
-            end = put_run(buffer, end, S::writes_pattern(), run);
+            end = put_run(buffer, end, form, run);
         }
         end
     }
@@ -120,21 +126,21 @@ fn first_of(segment: Segment<'_>, count: usize) -> Segment<'_>
 }
 
 /// Writes the lines of a run at an offset of the buffer, and returns the offset after them.
-fn put_run(buffer: &mut [u8], start: usize, is_pattern: bool, run: Segment<'_>) -> usize
+fn put_run(buffer: &mut [u8], start: usize, form: LineForm, run: Segment<'_>) -> usize
     requires lengths { length run.values.now ≡ length run.rows.now }
     requires room { start + length run.rows.now * LONGEST_LINE ≤ length buffer.old }
-    ensures lines { take result buffer.new ≡ take start buffer.old ++ segment_lines is_pattern run.entry }
+    ensures lines { take result buffer.new ≡ take start buffer.old ++ segment_lines form run.entry }
     ensures limit { result ≤ start + length run.entry.rows.now * LONGEST_LINE }
 {
     let (top, column) = (run.top, run.column);
-    put_rows(buffer, start, is_pattern, top, column, run.rows, run.values)
+    put_rows(buffer, start, form, top, column, run.rows, run.values)
 }
 
 /// The same for the entries of a column, whose rows count from `top`. The digits of the column are computed once.
 fn put_rows(
     buffer: &mut [u8],
     start: usize,
-    is_pattern: bool,
+    form: LineForm,
     top: u32,
     column: u32,
     rows: &[u32],
@@ -142,7 +148,7 @@ fn put_rows(
 ) -> usize
     requires lengths { length values.now ≡ length rows.now }
     requires room { start + length rows.now * LONGEST_LINE ≤ length buffer.old }
-    ensures lines { take result buffer.new ≡ take start buffer.old ++ column_lines is_pattern top column rows.now values.now }
+    ensures lines { take result buffer.new ≡ take start buffer.old ++ column_lines form top column rows.now values.now }
     ensures limit { result ≤ start + length rows.now * LONGEST_LINE }
 {
     let mut digits = Buffer::new();
@@ -150,7 +156,7 @@ fn put_rows(
     let mut end = start;
     for n in 0..rows.len() {
         let row = u64::from(top) + u64::from(rows[n]) + 1;
-        end = put_one(buffer, end, is_pattern, row, digits, values[n]);
+        end = put_one(buffer, end, form, row, digits, values[n]);
     }
     end
 }
@@ -160,7 +166,7 @@ fn put_rows(
 fn put_one(
     buffer: &mut [u8],
     start: usize,
-    is_pattern: bool,
+    form: LineForm,
     row: u64,
     column: &[u8],
     value: u64,
@@ -168,13 +174,17 @@ fn put_one(
     requires room { start + LONGEST_LINE ≤ length buffer.old }
     requires row { row < 10 ^ 10 }
     requires column { length column.now ≤ 10 }
-    ensures line { take result buffer.new ≡ take start buffer.old ++ line_with is_pattern row column.now value }
+    ensures line { take result buffer.new ≡ take start buffer.old ++ line_with form row column.now value }
     ensures limit { result ≤ start + LONGEST_LINE }
 {
     let end = put_number(buffer, start, row, b' ');
-    if is_pattern {
-        return put_bytes(buffer, end, column, b'\n');
+    match form {
+        LineForm::Place => put_bytes(buffer, end, column, b'\n'),
+        LineForm::PlaceAndValue => {
+            let end = put_bytes(buffer, end, column, b' ');
+            put_number(buffer, end, value, b'\n')
+        }
+        LineForm::RowAndValue => put_number(buffer, end, value, b'\n'),
+        LineForm::RowAndVertex => put_next_number(buffer, end, value, b'\n'),
     }
-    let end = put_bytes(buffer, end, column, b' ');
-    put_number(buffer, end, value, b'\n')
 }

@@ -6,11 +6,11 @@
 ghost use Rattle.std.specs.Prelude.{◌≡◌, ◌≤◌, ◌<◌, [], ◌++◌, length, take, if◌then◌else◌, IfOk, IfSome, IfNone};
 ghost use Rattle.cb_market_pages.specs.Text.{head_of};
 
-use crate::TextPages;
 use crate::pages::{put_bytes, put_number};
 use crate::runs::LONGEST_LINE;
 use crate::text_pages::EntriesLeft;
 use crate::writing::header;
+use crate::{LineForm, TextPages};
 use cb_matrix::Shape;
 use cb_semirings::Semiring;
 use std::alloc::{AllocError, Global};
@@ -25,7 +25,7 @@ const LONGEST_HEAD: usize = 112;
 /// The most bytes that a share can have: 704,624.
 const LONGEST_SHARE: usize = LONGEST_HEAD + MOST_LINES * LONGEST_LINE;
 
-/// A part of the text of a matrix, at least one byte and at most 16,384 lines and the head. In contracts it is its bytes.
+/// A part of a text, at least one byte and at most 16,384 lines and the head. In contracts it is its bytes.
 #[derive(Drop)]
 pub struct Share<'a, S: Semiring> {
     shape: Shape,
@@ -33,6 +33,7 @@ pub struct Share<'a, S: Semiring> {
     len: usize,
     /// Whether the share begins with the head.
     has_head: bool,
+    form: LineForm,
     /// The first `count` of these entries are those whose lines the share has.
     entries: EntriesLeft<'a, S>,
     count: usize,
@@ -45,7 +46,7 @@ impl<'a, S: Semiring> Model for Share<'a, S> {
 
     ghost Value = { List ℕ };
 
-    ghost view = { λ t. text_left S.arithmetic t.has_head t.shape t.len (take t.count t.entries) };
+    ghost view = { λ t. text_left S.arithmetic t.form t.has_head t.shape t.len (take t.count t.entries) };
 
     ghost invariant = { λ t. t.count ≤ MOST_LINES };
 }
@@ -70,6 +71,7 @@ impl<'a, S: Semiring> TextPages<'a, S> {
             shape: self.shape,
             len: self.len,
             has_head,
+            form: self.form,
             entries,
             count,
         })
@@ -118,7 +120,7 @@ impl Sheet {
             share.len,
         );
         let mut entries = share.entries.fork();
-        self.end = entries.put_first(&mut self.bytes, start, share.count);
+        self.end = entries.put_first(&mut self.bytes, start, share.form, share.count);
     }
 
     /// Returns what is written.

@@ -1,9 +1,10 @@
-//! The text of a matrix over a grid, in panels or in a block, page by page, without gathering the matrix.
+//! The text of a matrix over a grid, in panels or in a block, or the lines of a block, page by page, without gathering the matrix.
 ghost use Rattle.std.specs.Prelude.{◌≡◌, ◌+◌, ◌≤◌, ◌<◌, [], ◌++◌, length, flat_map, take, drop, true, false, IfSome, IfNone};
 ghost use Rattle.cb_layout.specs.Segments.{entries_of};
-ghost use Rattle.cb_market_pages.specs.Sheets.{lines_of};
-ghost use Rattle.cb_market_pages.specs.Text.{text_of, column_lines, entry_line, first_lines, line_with};
+ghost use Rattle.cb_market_pages.specs.Text.{text_of, column_lines, entry_line, first_lines, line_with, lines_in, vertex_pairs_text_of, vertex_text_of};
+ghost use Rattle.cb_market_pages.specs.declared.line_forms.LineForm.TheVariants as form_is;
 
+use crate::LineForm;
 use crate::pages::{LINE, Page, SIZE};
 use crate::writing::put_head;
 use cb_dcsc::Block;
@@ -13,8 +14,8 @@ use cb_semirings::Semiring;
 use itoa::Buffer;
 use std::marker::Model;
 
-/// The rest of the text of a matrix over a grid, in panels or in a block, still to be written. In contracts it is these
-/// bytes.
+/// The rest of the text of a matrix over a grid, in panels or in a block, or of the lines of a block, still to be written. In
+/// contracts it is these bytes.
 ///
 /// The entries are read from the blocks in place, column by column. The digits of a column are computed once per block.
 /// The cost is proportional to the stored entries, and no call takes memory.
@@ -25,6 +26,8 @@ pub struct TextPages<'a, S: Semiring> {
     pub(crate) len: usize,
     /// Whether the header and the size line are left.
     pub(crate) has_head: bool,
+    /// The form of a line.
+    pub(crate) form: LineForm,
     pub(crate) entries: EntriesLeft<'a, S>,
 }
 
@@ -34,7 +37,7 @@ impl<'a, S: Semiring> Model for TextPages<'a, S> {
 
     ghost Value = { List ℕ };
 
-    ghost view = { λ t. text_left S.arithmetic t.has_head t.shape t.len t.entries };
+    ghost view = { λ t. text_left S.arithmetic t.form t.has_head t.shape t.len t.entries };
 }
 
 impl<'a, S: Semiring> TextPages<'a, S> {
@@ -46,6 +49,7 @@ impl<'a, S: Semiring> TextPages<'a, S> {
             shape: matrix.shape(),
             len: matrix.len(),
             has_head: true,
+            form: LineForm::of_matrix::<S>(),
             entries: EntriesLeft::new(matrix.segments()),
         }
     }
@@ -58,6 +62,7 @@ impl<'a, S: Semiring> TextPages<'a, S> {
             shape: matrix.shape(),
             len: matrix.len(),
             has_head: true,
+            form: LineForm::of_matrix::<S>(),
             entries: EntriesLeft::new(Segments::of_block(matrix)),
         }
     }
@@ -66,10 +71,21 @@ impl<'a, S: Semiring> TextPages<'a, S> {
     pub fn lines_of(block: &'a Block<S>) -> TextPages<'a, S>
         ensures { result ≡ flat_map (entry_line S.arithmetic.writes_pattern) block.now.entries }
     {
+        TextPages::lines_in(block, LineForm::of_matrix::<S>())
+    }
+
+    /// Starts the lines of a block's entries in a form. Those of a column are its text: the number of each vertex that has an
+    /// entry, and its value or the number of the vertex that is its value.
+    pub fn lines_in(block: &'a Block<S>, form: LineForm) -> TextPages<'a, S>
+        ensures lines { result ≡ lines_in form block.now.entries }
+        ensures values { form ≡ form_is.RowAndValue → result ≡ vertex_text_of block.now }
+        ensures vertices { form ≡ form_is.RowAndVertex → result ≡ vertex_pairs_text_of block.now }
+    {
         TextPages {
             shape: block.shape(),
             len: block.len(),
             has_head: false,
+            form,
             entries: EntriesLeft::new(Segments::of_block(block)),
         }
     }
@@ -82,6 +98,7 @@ impl<'a, S: Semiring> TextPages<'a, S> {
             shape: matrix.shape(),
             len: matrix.len(),
             has_head: true,
+            form: LineForm::of_matrix::<S>(),
             entries: EntriesLeft::new(matrix.segments()),
         }
     }
@@ -103,7 +120,7 @@ impl<'a, S: Semiring> TextPages<'a, S> {
             put_head(page, S::writes_pattern(), self.shape, self.len);
             self.has_head = false;
         }
-        self.entries.put_lines(page);
+        self.entries.put_lines(page, self.form);
         !page.written().is_empty()
     }
 }
@@ -145,12 +162,12 @@ impl<'a, S: Semiring> EntriesLeft<'a, S> {
     }
 
     /// Writes the lines of the next entries, until the page has no room or no entry is left.
-    fn put_lines(&mut self, page: &mut Page)
-        ensures lines { page.new ++ lines_of S.arithmetic self.new ≡ page.old ++ lines_of S.arithmetic self.old }
+    fn put_lines(&mut self, page: &mut Page, form: LineForm)
+        ensures lines { page.new ++ lines_in form self.new ≡ page.old ++ lines_in form self.old }
         ensures all { length page.new + LINE ≤ SIZE → self.new ≡ [] }
     {
         while page.has_room() {
-            if !self.put_some(page) {
+            if !self.put_some(page, form) {
                 return;
             }
         }
@@ -158,16 +175,16 @@ impl<'a, S: Semiring> EntriesLeft<'a, S> {
 
     /// Writes lines of the current segment, or of the next one if the current one is done: at least one line, and as many
     /// as there is room for. Returns false if no entry is left.
-    fn put_some(&mut self, page: &mut Page) -> bool
+    fn put_some(&mut self, page: &mut Page, form: LineForm) -> bool
         requires { length page.old + LINE ≤ SIZE }
-        ensures lines { page.new ++ lines_of S.arithmetic self.new ≡ page.old ++ lines_of S.arithmetic self.old }
+        ensures lines { page.new ++ lines_in form self.new ≡ page.old ++ lines_in form self.old }
         ensures some { result ≡ true → length self.new < length self.old }
         ensures none { result ≡ false → self.new ≡ [] }
     {
         let Some(segment) = begun(self.segment, &mut self.segments) else {
             return false;
         };
-        let done = put_segment(page, S::writes_pattern(), segment);
+        let done = put_segment(page, form, segment);
         self.segment = rest_of(segment, done);
         true
     }
@@ -209,21 +226,21 @@ pub(crate) fn rest_of(segment: Segment<'_>, done: usize) -> Segment<'_>
 }
 
 /// Writes the lines of the first entries of a segment, as many as there is room for, and returns how many.
-fn put_segment(page: &mut Page, is_pattern: bool, segment: Segment<'_>) -> usize
+fn put_segment(page: &mut Page, form: LineForm, segment: Segment<'_>) -> usize
     requires lengths { length segment.values.now ≡ length segment.rows.now }
     requires room { length page.old + LINE ≤ SIZE }
-    ensures lines { page.new ≡ page.old ++ first_lines is_pattern result segment.entry }
+    ensures lines { page.new ≡ page.old ++ first_lines form result segment.entry }
     ensures limit { result ≤ length segment.entry.rows.now }
     ensures some { 0 < length segment.entry.rows.now → 0 < result }
 {
     let (top, column) = (segment.top, segment.column);
-    put_column(page, is_pattern, top, column, segment.rows, segment.values)
+    put_column(page, form, top, column, segment.rows, segment.values)
 }
 
 /// The same for the entries of a column, whose rows count from `top`. The digits of the column are computed once.
 fn put_column(
     page: &mut Page,
-    is_pattern: bool,
+    form: LineForm,
     top: u32,
     column: u32,
     rows: &[u32],
@@ -231,7 +248,7 @@ fn put_column(
 ) -> usize
     requires lengths { length values.now ≡ length rows.now }
     requires room { length page.old + LINE ≤ SIZE }
-    ensures lines { page.new ≡ page.old ++ column_lines is_pattern top column (take result rows.now) (take result values.now) }
+    ensures lines { page.new ≡ page.old ++ column_lines form top column (take result rows.now) (take result values.now) }
     ensures limit { result ≤ length rows.now }
     ensures some { 0 < length rows.now → 0 < result }
 {
@@ -242,22 +259,25 @@ fn put_column(
             return n;
         }
         let row = u64::from(top) + u64::from(rows[n]) + 1;
-        put_entry(page, is_pattern, row, digits, values[n]);
+        put_entry(page, form, row, digits, values[n]);
     }
     rows.len()
 }
 
 /// Writes the line of an entry, with the digits of its column.
-fn put_entry(page: &mut Page, is_pattern: bool, row: u64, column: &[u8], value: u64)
+fn put_entry(page: &mut Page, form: LineForm, row: u64, column: &[u8], value: u64)
     requires room { length page.old + LINE ≤ SIZE }
     requires digits { length column.now ≤ 20 }
-    ensures line { page.new ≡ page.old ++ line_with is_pattern row column.now value }
+    ensures line { page.new ≡ page.old ++ line_with form row column.now value }
 {
     page.put(row, b' ');
-    if is_pattern {
-        page.append(column, b'\n');
-    } else {
-        page.append(column, b' ');
-        page.put(value, b'\n');
+    match form {
+        LineForm::Place => page.append(column, b'\n'),
+        LineForm::PlaceAndValue => {
+            page.append(column, b' ');
+            page.put(value, b'\n');
+        }
+        LineForm::RowAndValue => page.put(value, b'\n'),
+        LineForm::RowAndVertex => page.put_next(value, b'\n'),
     }
 }

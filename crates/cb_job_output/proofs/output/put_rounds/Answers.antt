@@ -1,4 +1,4 @@
-use Rattle.std.proofs.Common.{◌≡◌, List, ℕ, [], ◌++◌, refl, ap, sym, ◌∙◌}
+use Rattle.std.proofs.Common.{◌≡◌, [], ◌++◌, refl, ap, sym, ◌∙◌}
 use Rattle.cb_job_ends.proofs.SinkLemmas.{appends_page, prefix_page, on_err}
 use Rattle.cb_job_output.specs.Rounds.{joined}
 use Rattle.cb_job_output.proofs.output.put_rounds.Goals as goal

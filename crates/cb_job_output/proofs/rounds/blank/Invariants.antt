@@ -1,4 +1,4 @@
-use Rattle.std.proofs.Common.{[], ◌≡◌, ◌+◌, ◌≤◌}
+use Rattle.std.proofs.Common.{[], ◌≡◌, ◌≤◌}
 use Rattle.std.specs.Prelude.{All, vec_len, vec_capacity}
 use Rattle.cb_job_output.specs.Rounds.{AreOf}
 use Rattle.cb_job_output.proofs.rounds.blank.Given as goal

@@ -1,5 +1,4 @@
 use Rattle.std.proofs.Common.{◌≡◌, ◌<◌, ◌++◌, List, ℕ, length, ap, sym, ◌∙◌, append_assoc, arith, rules}
-use Rattle.std.specs.Prelude.{vec_len}
 use Rattle.std.proofs.lemmas.List.Elements.{All-push}
 use Rattle.cb_job_output.specs.Rounds.{joined}
 use Rattle.cb_job_output.proofs.SharePuts.{joined_push, some_joined}

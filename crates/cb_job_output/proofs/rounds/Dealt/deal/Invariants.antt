@@ -1,4 +1,4 @@
-use Rattle.std.proofs.Common.{ℕ, ◌≡◌, ◌<◌, ◌≤◌, ◌-◌, [], List, ◌++◌, length}
+use Rattle.std.proofs.Common.{ℕ, ◌≡◌, ◌<◌, ◌-◌, List, ◌++◌, length}
 use Rattle.std.specs.Prelude.{All, vec_len, vec_capacity}
 use Rattle.cb_job_output.specs.Rounds.{joined}
 use Rattle.cb_job_output.proofs.rounds.Dealt.deal.Given as goal

@@ -1,4 +1,4 @@
-use Rattle.std.proofs.Common.{◌≡◌, ◌≤◌, ◌-◌, take, length}
+use Rattle.std.proofs.Common.{◌≤◌, ◌-◌, take, length}
 use Rattle.cb_job_output.specs.Rounds.{AreOf}
 use Rattle.cb_job_output.proofs.stacks.Stack.make.Given as goal
 

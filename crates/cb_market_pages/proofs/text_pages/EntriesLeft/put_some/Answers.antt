@@ -1,6 +1,5 @@
-use Rattle.std.proofs.Common.{◌++◌, take, refl, ap, sym, ◌∙◌}
+use Rattle.std.proofs.Common.{take, refl, sym, ◌∙◌}
 use Rattle.cb_layout.specs.Segments.{shifted}
-use Rattle.cb_market_pages.specs.Text.{first_lines}
 use Rattle.cb_market_pages.proofs.EntryRuns.{first_run, append_run}
 use Rattle.cb_market_pages.proofs.SegmentRests.{shorter_at}
 use Rattle.cb_market_pages.proofs.text_pages.EntriesLeft.put_some.Goals as goal
@@ -13,8 +12,7 @@ returns-clause-lines g c =
     let n = c.put_segment-done.result in
     let page = c.args.page.now in
     let all = first_run s.top s.column s.rows.now s.values.now s.top s.column _ _ (take n s.rows.now) (take n s.values.now) _ _ n c.begun.new.segments c.args.self.now e.lengths (refl, refl) refl refl r.place r.rows r.values (sym c.self.view_is ∙ e.some) in
-    append_run g.S.Semiring.arithmetic page _ (shifted s.top s.column (take n s.rows.now) (take n s.values.now)) _ c.args.self.now all
-    (c.put_segment-done.ensures.lines ∙ ap (λ b. page ++ first_lines b n s) c.writes_pattern.ensures)
+    append_run c.args.form page _ (shifted s.top s.column (take n s.rows.now) (take n s.values.now)) _ c.args.self.now all c.put_segment-done.ensures.lines
 
 pub returns-clause-some : goal.returns-clause-some
 returns-clause-some g c =

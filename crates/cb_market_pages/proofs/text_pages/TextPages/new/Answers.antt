@@ -4,4 +4,4 @@ use Rattle.cb_market_pages.proofs.text_pages.TextPages.new.Goals as goal
 
 pub returns : goal.returns
 unfolding text_of
-returns g c = rw (c.shape.ensures.shape, c.len.ensures, c.new.ensures, c.segments.ensures) refl
+returns g c = rw (c.of_matrix.ensures, c.shape.ensures.shape, c.len.ensures, c.new.ensures, c.segments.ensures) refl

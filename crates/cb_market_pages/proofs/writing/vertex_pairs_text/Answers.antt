@@ -1,7 +1,0 @@
-use Rattle.std.proofs.Common.{rules}
-use Rattle.cb_market_pages.specs.Text.{vertex_pairs_text_of}
-use Rattle.cb_market_pages.proofs.writing.vertex_pairs_text.Goals as goal
-
-pub returns : goal.returns
-unfolding vertex_pairs_text_of
-returns c = search rules
