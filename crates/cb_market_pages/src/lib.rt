@@ -17,4 +17,4 @@ pub use line_forms::LineForm;
 pub use pages::Page;
 pub use sheets::{MOST_LINES, Share, Sheet};
 pub use text_pages::TextPages;
-pub use writing::text;
+pub use writing::{text, text_of_pages};

@@ -10,13 +10,11 @@ use cb_matrix::{LIMIT, Shape};
 use cb_semirings::Semiring;
 use std::alloc::{AllocError, Global};
 
-/// Makes an empty text with room for a header and this many lines. A line is taken to have the last row, the last column
-/// and a value of two digits.
-fn text_of_lines(alloc: Global, shape: Shape, lines: usize) -> Result<Vec<u8>, AllocError>
-    ensures { IfOk result (λ text. text.items ≡ []) }
-{
+/// Returns the bytes of a header and this many lines. A line is taken to have the last row, the last column and a value of two
+/// digits.
+fn room_for_lines(shape: Shape, lines: usize) -> usize {
     let line = digits(shape.rows().into()) + digits(shape.cols().into()) + 5;
-    Vec::with_capacity(alloc, lines.saturating_mul(line).saturating_add(80))
+    lines.saturating_mul(line).saturating_add(80)
 }
 
 /// Returns the header without its line feed.
@@ -57,14 +55,27 @@ fn put_pages<S: Semiring>(
     Ok(())
 }
 
+/// Writes what is left of a text. Memory for so many bytes is taken first, and more if there are more.
+pub fn text_of_pages<S: Semiring>(
+    alloc: Global,
+    pages: TextPages<'_, S>,
+    room: usize,
+) -> Result<Vec<u8>, AllocError>
+    ensures { IfOk result (λ text. text.items ≡ pages.entry) }
+{
+    let mut page = Page::new(alloc)?;
+    let mut text = Vec::with_capacity(alloc, room)?;
+    put_pages(&mut text, &mut page, pages)?;
+    Ok(text)
+}
+
 /// Writes the text of a matrix: the header, the size line, and a line for each entry, by column and then by row. It reads
 /// back as the same matrix if there are at most 2,147,483,647 entries. No entry is copied.
 pub fn text<S: Semiring>(alloc: Global, matrix: &Block<S>) -> Result<Vec<u8>, AllocError>
     ensures text { IfOk result (λ bytes. bytes.items ≡ text_of S.arithmetic matrix.now) }
     ensures law { IfOk result (λ bytes. length matrix.now.entries ≤ LIMIT → Reads S.arithmetic bytes.items matrix.now) }
 {
-    let mut page = Page::new(alloc)?;
-    let mut text = text_of_lines(alloc, matrix.shape(), matrix.len())?;
-    put_pages(&mut text, &mut page, TextPages::of_block(matrix))?;
+    let room = room_for_lines(matrix.shape(), matrix.len());
+    let text = text_of_pages(alloc, TextPages::of_block(matrix), room)?;
     Ok(text)
 }

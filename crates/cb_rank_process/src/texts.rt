@@ -11,7 +11,7 @@ use cb_bases::Based;
 use cb_dcsc::Block;
 use cb_grid::Grid;
 use cb_market::{Opening, read_piece, room_for_entries};
-use cb_market_pages::{Page, TextPages};
+use cb_market_pages::{TextPages, text_of_pages};
 use cb_matrix::Shape;
 use cb_plan::{RankStore, SharedBlock};
 use cb_plan_transfers::pieces_plan;
@@ -56,13 +56,8 @@ fn read_block<S: Semiring>(
 fn block_lines<S: Semiring>(alloc: Global, block: &Block<S>) -> Result<Vec<u8>, AllocError>
     ensures { IfOk result (λ text. text.items ≡ lines_of S.arithmetic block.now.entries) }
 {
-    let mut pages = TextPages::lines_of(block);
-    let mut page = Page::new(alloc)?;
-    let mut text = Vec::with_capacity(alloc, block.len().saturating_mul(16))?;
-    while pages.next_page(&mut page) {
-        text.extend_from_slice(page.written())?;
-    }
-    Ok(text)
+    let room = block.len().saturating_mul(16);
+    text_of_pages(alloc, TextPages::lines_of(block), room)
 }
 
 /// The same, over the base of its semiring. If memory is refused, the block comes back.

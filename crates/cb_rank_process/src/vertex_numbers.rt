@@ -15,7 +15,7 @@ use crate::faults::ProcessFault;
 use crate::processes::{Kept, Process};
 use cb_dcsc::Block;
 use cb_elementwise::add;
-use cb_market_pages::column_text;
+use cb_market_pages::{LineForm, TextPages, text_of_pages};
 use cb_matrix::Shape;
 use cb_plan::SharedBlock;
 use cb_reshape::{cut, place};
@@ -64,7 +64,9 @@ impl<S: Semiring> Process<S> {
             return Err(ProcessFault::Absent);
         }
         let whole = place(alloc, block, kept.shape, (rows.0, cols.0))?;
-        let text = column_text(alloc, &whole)?;
+        let room = whole.len().saturating_mul(16);
+        let pages = TextPages::lines_in(&whole, LineForm::RowAndValue);
+        let text = text_of_pages(alloc, pages, room)?;
         Ok(text)
     }
 }
