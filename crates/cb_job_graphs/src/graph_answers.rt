@@ -14,10 +14,10 @@ use cb_job_ends::faults::JobFault;
 use cb_job_ends::texts::Text;
 use cb_job_output::answers::Answer;
 use cb_layout::PanelledMatrix;
-use cb_market_pages::{vertex_pairs_text, vertex_text};
+use cb_market_pages::LineForm;
 use cb_matrix::Matrix;
 use cb_operations::{Beside, GraphTask};
-use cb_semirings::MinPlus;
+use cb_semirings::{MinPlus, Semiring};
 use std::alloc::{AllocError, Global};
 use std::thread::Threads;
 
@@ -94,23 +94,31 @@ pub(crate) fn answer_over<S: GraphSemiring + Based + Send + Sync, R: Threads + S
     }
 }
 
-/// A matrix as a single panel. The list of its entries is dropped.
-fn panelled(alloc: Global, matrix: Matrix<MinPlus>) -> Result<PanelledMatrix<MinPlus>, AllocError>
+/// A matrix as a block. The list of its entries is dropped.
+fn block_of<S: Semiring>(alloc: Global, matrix: Matrix<S>) -> Result<Block<S>, AllocError>
     ensures { IfOk result (λ m. m ≡ matrix) }
 {
-    let block = Block::from_ordered(alloc, matrix.shape(), matrix.entries())?;
-    Ok(PanelledMatrix::from_block(alloc, block))
+    Block::from_ordered(alloc, matrix.shape(), matrix.entries())
 }
 
-/// An answer to be written: a matrix, a number, or a text with a line for each vertex, row or column.
+/// An answer to be written: a matrix, a number, or a column with a line for each vertex, row or column that has a number.
 pub fn text_answer(alloc: Global, answer: GraphAnswer) -> Result<Answer<MinPlus>, AllocError>
     ensures { IfOk result (λ written. text_of_answer min_plus written ≡ answer_text answer) }
 {
     match answer {
-        GraphAnswer::Numbers(column) => Ok(Answer::Lines(vertex_text(alloc, &column)?)),
-        GraphAnswer::Columns(matrix) => Ok(Answer::Matrix(panelled(alloc, matrix)?)),
-        GraphAnswer::Vertices(column) => Ok(Answer::Lines(vertex_pairs_text(alloc, &column)?)),
-        GraphAnswer::Counts(column) => Ok(Answer::Lines(vertex_text(alloc, &column)?)),
+        GraphAnswer::Numbers(column) => {
+            let block = block_of(alloc, column)?;
+            Ok(Answer::Column(block, LineForm::RowAndValue))
+        }
+        GraphAnswer::Columns(matrix) => {
+            let block = block_of(alloc, matrix)?;
+            Ok(Answer::Matrix(PanelledMatrix::from_block(alloc, block)))
+        }
+        GraphAnswer::Vertices(column) => {
+            let block = block_of(alloc, column)?;
+            Ok(Answer::Column(block, LineForm::RowAndVertex))
+        }
+        GraphAnswer::Counts(column) => Ok(Answer::Counts(block_of(alloc, column)?)),
         GraphAnswer::Count(count) => Ok(Answer::Number(count)),
     }
 }
