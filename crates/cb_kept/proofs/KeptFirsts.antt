@@ -1,27 +1,45 @@
 -- The first fault of an operation on kept matrices, and what is known of each of them.
-use Rattle.std.proofs.Common.{◌≡◌, ℕ, ◌<◌, ◌≤◌, List, [], ◌∷◌, length, get_or, refl, sym, subst, inl, inr, arith}
-use Rattle.std.specs.Prelude.{All, map, Option, Some, None}
+use Rattle.std.proofs.Common.{◌≡◌, ℕ, ◌<◌, ◌≤◌, List, [], ◌∷◌, length, get_or, refl, sym, subst, arith}
+use Rattle.std.specs.Prelude.{All, Option, Some, None, Result}
 use Rattle.std.specs.Borrow.{Bor}
 use Rattle.std.proofs.lemmas.List.Elements.{All-nil, All-cons, All-head, All-tail, All-map, All-get_or}
 use Rattle.cb_semirings.specs.declared.names.SemiringName.{SemiringName}
-use Rattle.cb_semirings.specs.Names.{arithmetic_of}
 use Rattle.cb_operations.specs.declared.operations.Operation.{Operation}
 use Rattle.cb_operations.specs.declared.operations.Operation.TheVariants.{Multiply}
-use Rattle.cb_operations.specs.OperationAnswers.{operand_count_of, Agree, answer_of, shapes_in}
-use Rattle.cb_kept.specs.declared.faults.Fault.TheVariants.{Test, Mixed, Shapes}
+use Rattle.cb_operations.specs.OperationAnswers.{operand_count_of}
+use Rattle.cb_operations.specs.declared.selections.Selection.{Selection}
+use Rattle.cb_operations.specs.declared.selections.Selection.TheVariants.{Kronecker}
+use Rattle.cb_operations.specs.SelectionAnswers as selections
+use Rattle.cb_selections.specs.declared.updates.WriteBack.{WriteBack}
+use Rattle.cb_kept.specs.declared.faults.Fault.{Fault}
+use Rattle.cb_kept.specs.declared.faults.Fault.TheVariants.{Mixed}
 use Rattle.cb_kept.specs.declared.kept.Kept.{Kept}
 use Rattle.cb_operations.specs.Operands.{lent_in}
-use Rattle.cb_kept.specs.Kept.{Keeps, semiring_of, semiring_in, matrix_in, AreOver}
 use Rattle.cb_shares.specs.Shares.{panel}
-use Rattle.cb_kept.specs.KeptShares.{HasMadeColumns}
-use Rattle.cb_kept.specs.KeptAnswers.{kept_faults, HasMadeKept}
-use Rattle.cb_kept.specs.Answers.{NoFault}
-use Rattle.cb_kept.proofs.Firsts.{passed, no_more}
+use Rattle.cb_kept.specs.Answers.{IsAnswer}
+use Rattle.cb_kept.specs.Kept.{Keeps, semiring_of, semiring_in, AreOver}
+use Rattle.cb_kept.specs.KeptCalls.{IsCall}
+use Rattle.cb_kept.specs.KeptUpdates.{HaveSemiring, operands_of, one_shape_faults, update_faults, update_of, IsUpdate, IsUpdateOfColumns}
+use Rattle.cb_kept.specs.Refusals.{Unless}
+use Rattle.cb_kept.proofs.Firsts.{same_answer}
 
--- each operation takes at least one matrix
+-- each operation takes one matrix to three
 pub some_operand : (o : Operation) → 1 ≤ operand_count_of o
 some_operand Multiply = omega arith
 some_operand _ = omega arith
+
+pub few_operands : (o : Operation) → operand_count_of o ≤ 3
+few_operands Multiply = omega arith
+few_operands _ = omega arith
+
+-- and so does each selection
+pub some_matrix : (o : Selection) → 1 ≤ selections.operand_count_of o
+some_matrix Kronecker = omega arith
+some_matrix _ = omega arith
+
+pub few_matrices : (o : Selection) → selections.operand_count_of o ≤ 3
+few_matrices Kronecker = omega arith
+few_matrices _ = omega arith
 
 module _ (name : SemiringName) where
   abbrev IsOver : Bor Kept → Type 0
@@ -44,31 +62,37 @@ pub first_semiring : (ks : List (Bor Kept)) (d : Bor Kept) → 0 < length ks →
 first_semiring [] d l = absurd (omega arith)
 first_semiring (k ∷ ks) d l = refl
 
-module _ (o : Operation) (ks : List Kept) where
-  abbrev agreeing : Type 0
-  agreeing = Agree o (shapes_in (map matrix_in ks))
+-- two matrices are over one semiring if the second is over that of the first
+pub pair_over : (a b : Kept) → AreOver (semiring_of a) (a ∷ b ∷ []) → semiring_of b ≡ semiring_of a
+pair_over a b h = All-head (λ (k : Kept). semiring_of k ≡ semiring_of a) b [] (All-tail (λ (k : Kept). semiring_of k ≡ semiring_of a) a (b ∷ []) h)
 
-  pub mixed_first : (AreOver (semiring_in ks) ks → ⊥) → kept_faults (Some o) ks Mixed
-  unfolding kept_faults
-  mixed_first n = inl (refl, n)
+pub over_pair : (a b : Kept) → semiring_of b ≡ semiring_of a → AreOver (semiring_of a) (a ∷ b ∷ [])
+over_pair a b e =
+    All-cons (λ (k : Kept). semiring_of k ≡ semiring_of a) a (b ∷ []) refl (All-cons (λ (k : Kept). semiring_of k ≡ semiring_of a) b [] e (All-nil (λ (k : Kept). semiring_of k ≡ semiring_of a)))
 
-  pub shapes_first : AreOver (semiring_in ks) ks → (agreeing → ⊥) → kept_faults (Some o) ks Shapes
-  unfolding kept_faults
-  shapes_first over n = inr (over, inl (refl, n))
+pub of_pair : {X : Type 0} (a b : Kept) (next : Fault → Type 0) (is : X → Type 0) (r : Result X Fault) → IsAnswer (Unless (AreOver (semiring_of a) (a ∷ b ∷ [])) Mixed next) is r → IsAnswer (Unless (semiring_of b ≡ semiring_of a) Mixed next) is r
+of_pair a b next is r h = same_answer Mixed next is r (pair_over a b) (over_pair a b) h
 
-  pub none_of_kept : AreOver (semiring_in ks) ks → agreeing → NoFault (kept_faults (Some o) ks)
-  unfolding kept_faults
-  none_of_kept over p = passed (AreOver (semiring_in ks) ks) Mixed _ over (passed agreeing Shapes _ p no_more)
+-- an updated matrix and its mask, if there is one
+pub update_over : (old new : Kept) (mask : Option Kept) → AreOver (semiring_of old) (operands_of old new mask) → HaveSemiring (semiring_of old) new mask
+update_over old new None h = (pair_over old new h, tt)
+update_over old new (Some mask) h =
+    let t = All-tail (λ (k : Kept). semiring_of k ≡ semiring_of old) old (new ∷ mask ∷ []) h in
+    (All-head (λ (k : Kept). semiring_of k ≡ semiring_of old) new (mask ∷ []) t, All-head (λ (k : Kept). semiring_of k ≡ semiring_of old) mask [] (All-tail (λ (k : Kept). semiring_of k ≡ semiring_of old) new (mask ∷ []) t))
 
-  -- the result, over the semiring of all operands
-  pub made_kept : (name : SemiringName) (k : Kept) → name ≡ semiring_in ks → Keeps name (answer_of o (arithmetic_of name) (map matrix_in ks)) k → HasMadeKept (Some o) ks k
-  made_kept name k e h = subst (λ n. Keeps n (answer_of o (arithmetic_of n) (map matrix_in ks)) k) e h
+pub over_update : (old new : Kept) (mask : Option Kept) → HaveSemiring (semiring_of old) new mask → AreOver (semiring_of old) (operands_of old new mask)
+over_update old new None h = over_pair old new h.0
+over_update old new (Some mask) h =
+    let P : Kept → Type 0 = λ (k : Kept). semiring_of k ≡ semiring_of old in
+    All-cons P old (new ∷ mask ∷ []) refl (All-cons P new (mask ∷ []) h.0 (All-cons P mask [] h.1 (All-nil P)))
 
-  -- some columns of it
-  pub made_columns : (first end : ℕ) (name : SemiringName) (k : Kept) → name ≡ semiring_in ks → Keeps name (panel (answer_of o (arithmetic_of name) (map matrix_in ks)) first end) k → HasMadeColumns (Some o) first end ks k
-  made_columns first end name k e h = subst (λ n. Keeps n (panel (answer_of o (arithmetic_of n) (map matrix_in ks)) first end) k) e h
+module _ (how : WriteBack) (old new : Kept) where
+  pub of_update : (mask : Option Kept) (r : Result Kept Fault) → IsCall (λ s ms. one_shape_faults ms) (λ name s ms. Keeps name (update_of how s ms)) (operands_of old new mask) r → IsUpdate (Some how) old new mask r
+  unfolding update_faults
+  of_update None r h = same_answer Mixed _ _ r (update_over old new None) (over_update old new None) h
+  of_update (Some mask) r h = same_answer Mixed _ _ r (update_over old new (Some mask)) (over_update old new (Some mask)) h
 
--- no test has the number of a prune
-pub no_kept_operation : (o : Option Operation) (ks : List Kept) → o ≡ None → kept_faults o ks Test
-unfolding kept_faults
-no_kept_operation o ks e = subst (λ (p : Option Operation). kept_faults p ks Test) (sym e) refl
+  pub of_update_columns : (first end : ℕ) (mask : Option Kept) (r : Result Kept Fault) → IsCall (λ s ms. one_shape_faults ms) (λ name s ms. Keeps name (panel (update_of how s ms) first end)) (operands_of old new mask) r → IsUpdateOfColumns (Some how) first end old new mask r
+  unfolding update_faults
+  of_update_columns first end None r h = same_answer Mixed _ _ r (update_over old new None) (over_update old new None) h
+  of_update_columns first end (Some mask) r h = same_answer Mixed _ _ r (update_over old new (Some mask)) (over_update old new (Some mask)) h

@@ -1,10 +1,11 @@
 -- A product of two kept matrices in panels, each with a range of its columns, also under a mask or outside it; and panels that
 -- are joined.
-use Rattle.std.specs.Prelude.{◌≡◌, ℕ}
+use Rattle.std.specs.Prelude.{◌≡◌, ℕ, Result, OnOk, OnErr}
+use Rattle.cb_semirings.specs.declared.names.SemiringName.{SemiringName}
 use Rattle.cb_semirings.specs.Names.{arithmetic_of}
 use Rattle.cb_semirings.specs.Arithmetic.{Arithmetic}
 use Rattle.cb_matrix.specs.Sparse.{Sparse}
-use Rattle.cb_matrix.specs.Values.{product}
+use Rattle.cb_matrix.specs.Values.{empty_matrix, product}
 use Rattle.cb_matrix.specs.Operations.{masked}
 use Rattle.cb_operations.specs.Selected.{excluded}
 use Rattle.cb_dcsc.specs.Columns.{with_entries}
@@ -38,15 +39,24 @@ masked_panel_in allowed first end s a b m = panel (allowed_by allowed s (product
 abbrev pub IsKeptMaskedPanel : Allowed → ℕ → ℕ → Kept → Kept → Kept → Kept → Type 0
 IsKeptMaskedPanel allowed first end a b m made = Keeps (semiring_of a) (masked_panel_in allowed first end (arithmetic_of (semiring_of a)) a b m) made
 
--- the faults of two panels: their semirings differ, or their shapes, or a column of the second isn't after all of the first
+-- the faults of two panels over a semiring: their shapes differ, or a column of the second isn't after all of the first
+abbrev pub panel_faults : Sparse → Sparse → Fault → Type 0
+panel_faults front back = Unless (back.shape ≡ front.shape) Shapes (Unless (AreBefore front.entries back.entries) Order IsMemory)
+
+-- of two kept ones: their semirings differ
 unfoldable pub join_faults : Kept → Kept → Fault → Type 0
-join_faults front back =
-    Unless (semiring_of back ≡ semiring_of front) Mixed
-    (Unless ((matrix_in back).shape ≡ (matrix_in front).shape) Shapes
-    (Unless (AreBefore (matrix_in front).entries (matrix_in back).entries) Order IsMemory))
+join_faults front back = Unless (semiring_of back ≡ semiring_of front) Mixed (panel_faults (matrix_in front) (matrix_in back))
 
 -- The entries of two kept matrices, those of the second after those of the first. If the two are neighbouring panels of a
 -- matrix, such as a product under a mask, they are the panel of both ranges.
 pub record IsKeptJoin (front back made : Kept) : Type 0 where
   pub keeps : Keeps (semiring_of front) (with_entries (matrix_in front) (matrix_in back).entries) made
   pub panels : JoinsPanels (arithmetic_of (semiring_of front)) (matrix_in front) (matrix_in back) (matrix_in made)
+
+-- what becomes of two kept matrices over a semiring that are joined, and of two that aren't
+pub record IsJoin {E : Type 0} (name : SemiringName) (s : Arithmetic) (front back front' back' : Kept) (result : Result (Unit {0}) E) : Type 0 where
+  pub keeps : OnOk result (Keeps name (with_entries (matrix_in front) (matrix_in back).entries) front')
+  pub panels : OnOk result (JoinsPanels s (matrix_in front) (matrix_in back) (matrix_in front'))
+  pub rest : OnOk result (Keeps name (empty_matrix (matrix_in back).shape) back')
+  pub front_stays : OnErr result (Keeps name (matrix_in front) front')
+  pub back_stays : OnErr result (Keeps name (matrix_in back) back')

@@ -53,6 +53,10 @@ IsPowerOf n (Some _) = ⊥
 abbrev pub SuitsKept : Selection → List Kept → Type 0
 SuitsKept selection ks = Suits selection (arithmetic_of (semiring_in ks)) (shapes_in (map matrix_in ks))
 
+-- the faults of a selection from matrices over a semiring: it is refused
+abbrev pub refusal_faults : Selection → Arithmetic → List Sparse → Fault → Type 0
+refusal_faults selection s ms = Unless (Suits selection s (shapes_in ms)) (refused_as (refusal_of selection)) IsMemory
+
 -- the faults of a selection: no region or function has the number, or a power has no factors; the semirings of the matrices
 -- differ; it is refused
 unfoldable pub selection_faults : Option Selection → List Kept → Fault → Type 0

@@ -1,10 +1,11 @@
 -- A kept matrix updated by another one, under a mask.
-use Rattle.std.specs.Prelude.{◌≡◌, ℕ, nat_lt, ◌/◌, ◌%◌, ◌==◌, cond, Option, Some, None, option_map, IfSome, Result}
+use Rattle.std.specs.Prelude.{◌≡◌, ℕ, nat_lt, ◌/◌, ◌%◌, ◌==◌, cond, List, [], ◌∷◌, Option, Some, None, option_map, IfSome, Result}
 use Rattle.cb_semirings.specs.Arithmetic.{Arithmetic}
 use Rattle.cb_semirings.specs.Names.{arithmetic_of}
 use Rattle.cb_semirings.specs.declared.names.SemiringName.{SemiringName}
 use Rattle.cb_matrix.specs.Sparse.{Sparse, Extent}
 use Rattle.cb_selections.specs.declared.updates.WriteBack.{WriteBack}
+use Rattle.cb_operations.specs.OperationAnswers.{matrix_at}
 use Rattle.cb_selections.specs.Updates.{updated}
 use Rattle.cb_shares.specs.Shares.{panel}
 use Rattle.cb_kept.specs.declared.faults.Fault.{Fault}
@@ -27,6 +28,29 @@ HaveSemiring name new mask = (semiring_of new ≡ name) × IfSome mask (λ k. se
 abbrev pub HaveShape : Extent → Kept → Option Kept → Type 0
 HaveShape d new mask = ((matrix_in new).shape ≡ d) × IfSome mask (λ k. (matrix_in k).shape ≡ d)
 
+-- ---- over a semiring
+-- the old matrix, the new one and the mask, if there is one, in order
+abbrev pub operands_of : Kept → Kept → Option Kept → List Kept
+operands_of old new None = old ∷ new ∷ []
+operands_of old new (Some mask) = old ∷ new ∷ mask ∷ []
+
+-- the mask among matrices in this order
+abbrev pub mask_in : List Sparse → Option Sparse
+mask_in (old ∷ new ∷ mask ∷ ms) = Some mask
+mask_in _ = None
+
+-- they have one shape
+abbrev pub HaveOneShape : List Sparse → Type 0
+HaveOneShape ms = ((matrix_at ms 1).shape ≡ (matrix_at ms 0).shape) × IfSome (mask_in ms) (λ (m : Sparse). m.shape ≡ (matrix_at ms 0).shape)
+
+abbrev pub one_shape_faults : List Sparse → Fault → Type 0
+one_shape_faults ms = Unless (HaveOneShape ms) Shapes IsMemory
+
+-- the first, updated by the second
+abbrev pub update_of : WriteBack → Arithmetic → List Sparse → Sparse
+update_of how s ms = updated s how (mask_in ms) (matrix_at ms 0) (matrix_at ms 1)
+
+-- ---- of kept matrices
 -- the faults of an update: none has the number; their semirings differ; their shapes do
 unfoldable pub update_faults : Option WriteBack → Kept → Kept → Option Kept → Fault → Type 0
 update_faults None old new mask = λ f. f ≡ Test

@@ -1,6 +1,6 @@
 //! Why a call fails.
 ghost use Rattle.std.specs.Prelude.{◌≡◌, ◌≢◌};
-ghost use Rattle.cb_kept.specs.Refusals.{code_of, refused_as, selection_fault_of};
+ghost use Rattle.cb_kept.specs.Refusals.{code_of, refused_as};
 
 use cb_operations::{Refusal, SelectionRefusal};
 use cb_selections::SelectionFault;
@@ -65,6 +65,19 @@ impl From<Refusal> for Fault {
     }
 }
 
+impl From<SelectionFault> for Fault {
+    ghost use Rattle.cb_kept.specs.Refusals.{selection_fault_of};
+
+    ghost from_gives = { λ fault made. made ≡ selection_fault_of fault };
+
+    fn from(fault: SelectionFault) -> Fault {
+        match fault {
+            SelectionFault::Refused(refusal) => Fault::of_refusal(refusal),
+            SelectionFault::Memory => Fault::Memory,
+        }
+    }
+}
+
 impl Fault {
     /// Returns the number of the fault in C, which is never 0.
     pub fn code(self) -> u32
@@ -91,7 +104,7 @@ impl Fault {
     }
 
     /// Returns the fault of a selection that is refused.
-    fn of_refusal(refusal: SelectionRefusal) -> Fault
+    pub(crate) fn of_refusal(refusal: SelectionRefusal) -> Fault
         ensures { result ≡ refused_as refusal }
     {
         match refusal {
@@ -103,16 +116,6 @@ impl Fault {
             SelectionRefusal::Place => Fault::Place,
             SelectionRefusal::NoRow => Fault::Place,
             SelectionRefusal::NoColumn => Fault::Place,
-        }
-    }
-
-    /// Returns the fault of a selection that isn't made.
-    pub(crate) fn of_selection(fault: SelectionFault) -> Fault
-        ensures { result ≡ selection_fault_of fault }
-    {
-        match fault {
-            SelectionFault::Refused(refusal) => Fault::of_refusal(refusal),
-            SelectionFault::Memory => Fault::Memory,
         }
     }
 }

@@ -1,17 +1,18 @@
-//! The checks of operations on kept matrices. Each matrix is well formed: operands only have to agree with one another.
-ghost use Rattle.std.specs.Prelude.{◌≡◌, ◌↔◌, ◌<◌, IsTrue, length, map, All, Some, IfSome, IfNone, IfOk, IfErr};
-ghost use Rattle.cb_operations.specs.OperationAnswers.{operand_count_of, Agree, shapes_in};
+//! The checks of calls on kept matrices. Each matrix is well formed: operands only have to agree with one another.
+ghost use Rattle.std.specs.Prelude.{◌≡◌, ◌↔◌, ◌<◌, IsTrue, length, All, IfSome, IfNone, IfOk, IfErr};
 ghost use Rattle.std.specs.Borrow.{Bor};
-ghost use Rattle.cb_kept.specs.declared.kept.Kept.{Kept as KeptValue};
 ghost use Rattle.cb_operations.specs.Operands.{lent_in};
-ghost use Rattle.cb_kept.specs.Kept.{AreOver, semiring_of, semiring_in, matrix_in};
-ghost use Rattle.cb_kept.specs.KeptAnswers.{kept_faults};
+ghost use Rattle.cb_operations.specs.OperationAnswers.{operand_count_of, Agree, shapes_in};
+ghost use Rattle.cb_kept.specs.declared.kept.Kept.{Kept as KeptValue};
+ghost use Rattle.cb_kept.specs.Answers.{NoFault};
+ghost use Rattle.cb_kept.specs.Kept.{AreOver, semiring_of, semiring_in};
+ghost use Rattle.cb_kept.specs.KeptCalls.{shape_faults};
 
 use crate::faults::Fault;
 use crate::kept::Kept;
-use cb_matrix::Shape;
+use cb_layout::PanelledMatrix;
 use cb_operations::Operation;
-use cb_semirings::SemiringName;
+use cb_semirings::{Semiring, SemiringName};
 
 /// Whether a matrix is over a semiring.
 fn is_over(kept: &Kept, semiring: SemiringName) -> bool
@@ -25,20 +26,6 @@ fn are_over(semiring: SemiringName, operands: &[&Kept]) -> bool
     ensures { IsTrue result ↔ All (λ (k : Bor KeptValue). semiring_of k.now ≡ semiring) operands.now }
 {
     operands.iter().all(|kept| is_over(kept, semiring))
-}
-
-/// The shape of an operation's result, or none if the operands' shapes don't agree.
-fn made_shape(operation: Operation, operands: &[&Kept]) -> Option<Shape>
-    requires { length operands.now ≡ operand_count_of operation }
-    ensures agree { IfSome result (λ _. Agree operation (shapes_in (map matrix_in (lent_in operands.now)))) }
-    ensures none { IfNone result (¬ Agree operation (shapes_in (map matrix_in (lent_in operands.now)))) }
-{
-    match operands {
-        [a] => operation.shape_of(&[a.shape()]),
-        [a, b] => operation.shape_of(&[a.shape(), b.shape()]),
-        [a, b, c] => operation.shape_of(&[a.shape(), b.shape(), c.shape()]),
-        _ => unreachable!(),
-    }
 }
 
 /// The semiring of some operands, if all are over one.
@@ -60,23 +47,24 @@ pub(crate) fn one_semiring(operands: &[&Kept]) -> Option<SemiringName>
     }
 }
 
-/// The semiring of an operation's operands, if all are over one and their shapes agree; or else the first fault.
-#[tactic(auto, using(crate::proofs::KeptFirsts::some_operand))]
-pub(crate) fn common_semiring(
+/// Refuses matrices whose shapes don't agree.
+pub(crate) fn check_shapes<S: Semiring>(
     operation: Operation,
-    operands: &[&Kept],
-) -> Result<SemiringName, Fault>
+    operands: &[&PanelledMatrix<S>],
+) -> Result<(), Fault>
     requires { length operands.now ≡ operand_count_of operation }
-    ensures first { IfOk result (λ name. name ≡ semiring_in (lent_in operands.now)) }
-    ensures over { IfOk result (λ name. AreOver name (lent_in operands.now)) }
-    ensures agree { IfOk result (λ _. Agree operation (shapes_in (map matrix_in (lent_in operands.now)))) }
-    ensures fault { IfErr result (kept_faults (Some operation) (lent_in operands.now)) }
+    ensures agree { IfOk result (λ _. Agree operation (shapes_in (lent_in operands.now))) }
+    ensures none { IfOk result (λ _. NoFault (shape_faults operation (lent_in operands.now))) }
+    ensures fault { IfErr result (shape_faults operation (lent_in operands.now)) }
 {
-    let Some(semiring) = one_semiring(operands) else {
-        return Err(Fault::Mixed);
+    let shape = match operands {
+        [a] => operation.shape_of(&[a.shape()]),
+        [a, b] => operation.shape_of(&[a.shape(), b.shape()]),
+        [a, b, c] => operation.shape_of(&[a.shape(), b.shape(), c.shape()]),
+        _ => unreachable!(),
     };
-    let Some(_shape) = made_shape(operation, operands) else {
-        return Err(Fault::Shapes);
-    };
-    Ok(semiring)
+    match shape {
+        Some(_shape) => Ok(()),
+        None => Err(Fault::Shapes),
+    }
 }

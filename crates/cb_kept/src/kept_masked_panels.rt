@@ -1,24 +1,67 @@
-//! Panels of a product of two kept matrices under a kept mask or outside it, for threads of a program in another language.
-//! Columns are divided, and panels joined, as for the product without a mask (`kept_panels`).
+//! Products of two kept matrices outside a kept mask, and panels of a product under a mask or outside it, for threads of a
+//! program in another language. Columns are divided, and panels joined, as for the product without a mask (`kept_panels`).
 ghost use Rattle.std.specs.Prelude.{◌≡◌, IfOk};
-ghost use Rattle.cb_semirings.specs.Names.{arithmetic_of};
 ghost use Rattle.cb_matrix.specs.Values.{product, product_shape};
 ghost use Rattle.cb_shares.specs.Shares.{panel};
 ghost use Rattle.cb_kept.specs.Answers.{IsAnswer};
-ghost use Rattle.cb_kept.specs.Kept.{Keeps, semiring_of, matrix_in};
-ghost use Rattle.cb_kept.specs.KeptPanels.{allowed_by, masked_panel_in, IsKeptMaskedPanel};
-ghost use Rattle.cb_kept.specs.KeptProducts.{outside_faults};
+ghost use Rattle.cb_kept.specs.KeptPanels.{allowed_by, IsKeptMaskedPanel};
+ghost use Rattle.cb_kept.specs.KeptProducts.{outside_faults, IsKeptOutside};
 
 use crate::faults::Fault;
 use crate::keeping::{Keep, keep_block};
 use crate::kept::Kept;
-use crate::kept_checks::common_semiring;
-use crate::kept_operations::whole_in;
+use crate::kept_calls::{KeptCall, kept_call};
+use crate::kept_checks::check_shapes;
+use crate::kept_shares::Share;
 use cb_dcsc::Block;
+use cb_layout::PanelledMatrix;
+use cb_masked::multiply_outside;
 use cb_operations::Operation;
-use cb_semirings::{Semiring, SemiringName, over_semiring};
+use cb_semirings::Semiring;
 use cb_shares::{masked_panel, outside_panel};
 use std::alloc::{AllocError, Global};
+
+/// The product of two matrices outside a mask.
+struct OutsideProduct;
+
+impl KeptCall for OutsideProduct {
+    ghost use Rattle.std.specs.Prelude.{◌≡◌};
+    ghost use Rattle.cb_matrix.specs.Values.{product};
+    ghost use Rattle.cb_operations.specs.declared.operations.Operation.TheVariants.{MultiplyMasked};
+    ghost use Rattle.cb_operations.specs.OperationAnswers.{matrix_at};
+    ghost use Rattle.cb_operations.specs.Selected.{excluded};
+    ghost use Rattle.cb_kept.specs.Kept.{Keeps};
+    ghost use Rattle.cb_kept.specs.KeptCalls.{shape_faults};
+
+    type Answer = Kept;
+
+    ghost takes = { λ _ n. n ≡ 3 };
+
+    ghost faults = { λ _ s ms. shape_faults MultiplyMasked ms };
+
+    ghost gives = { λ _ name s ms. Keeps name (excluded s (product s (matrix_at ms 0) (matrix_at ms 1)) (matrix_at ms 2)) };
+
+    fn over<S: Keep>(&self, alloc: Global, operands: &[&PanelledMatrix<S>]) -> Result<Kept, Fault> {
+        check_shapes(Operation::MultiplyMasked, operands)?;
+        let [a, b, mask] = operands else {
+            unreachable!()
+        };
+        let a = a.whole()?;
+        let b = b.whole()?;
+        let mask = mask.whole()?;
+        let block = multiply_outside(alloc, a.block(), b.block(), mask.block())?;
+        Ok(keep_block::<S>(alloc, block))
+    }
+}
+
+/// Computes the entries of the product of two kept matrices at the places where a kept mask has none, and keeps them. The
+/// mask's values are ignored. The faults are those of the product under the mask.
+#[tactic(auto, unfolding(crate::specs::KeptAnswers::kept_faults))]
+pub fn kept_outside(alloc: Global, left: &Kept, right: &Kept, mask: &Kept) -> Result<Kept, Fault>
+    ensures { IsAnswer (outside_faults left.now right.now mask.now) (IsKeptOutside left.now right.now mask.now) result }
+{
+    kept_call(alloc, &OutsideProduct, &[left, right, mask])
+}
 
 /// Which places a mask allows: those where it has an entry, or those where it has none.
 #[derive(Clone, Copy)]
@@ -30,74 +73,57 @@ pub enum Allowed {
 /// The panel of a product at the places that a mask allows.
 fn allowed_panel<S: Semiring>(
     alloc: Global,
-    allowed: Allowed,
+    share: &Share<Allowed>,
     left: &Block<S>,
     right: &Block<S>,
     mask: &Block<S>,
-    first: u32,
-    end: u32,
 ) -> Result<Block<S>, AllocError>
     requires agree { left.now.shape.cols ≡ right.now.shape.rows }
     requires shape { mask.now.shape ≡ product_shape left.now right.now }
-    ensures { IfOk result (λ m. m ≡ panel (allowed_by allowed S.arithmetic (product S.arithmetic left.now right.now) mask.now) first end) }
+    ensures { IfOk result (λ m. m ≡ panel (allowed_by share.now.call S.arithmetic (product S.arithmetic left.now right.now) mask.now) share.now.first share.now.end) }
 {
-    match allowed {
+    let (first, end) = (share.first, share.end);
+    match share.call {
         Allowed::Entries => masked_panel(alloc, left, right, mask, first, end),
         Allowed::Others => outside_panel(alloc, left, right, mask, first, end),
     }
 }
 
-/// The same of kept matrices over a semiring, kept.
-fn panel_over<S: Keep>(
-    alloc: Global,
-    allowed: Allowed,
-    left: &Kept,
-    right: &Kept,
-    mask: &Kept,
-    first: u32,
-    end: u32,
-) -> Result<Kept, AllocError>
-    requires left { semiring_of left.now ≡ S.name }
-    requires right { semiring_of right.now ≡ S.name }
-    requires mask { semiring_of mask.now ≡ S.name }
-    requires agree { (matrix_in left.now).shape.cols ≡ (matrix_in right.now).shape.rows }
-    requires shape { (matrix_in mask.now).shape ≡ product_shape (matrix_in left.now) (matrix_in right.now) }
-    ensures { IfOk result (Keeps S.name (masked_panel_in allowed first end S.arithmetic left.now right.now mask.now)) }
-{
-    let a = whole_in::<S>(left)?;
-    let b = whole_in::<S>(right)?;
-    let m = whole_in::<S>(mask)?;
-    let block = allowed_panel(alloc, allowed, a.block(), b.block(), m.block(), first, end)?;
-    Ok(keep_block::<S>(alloc, block))
-}
+impl KeptCall for Share<Allowed> {
+    ghost use Rattle.std.specs.Prelude.{◌≡◌};
+    ghost use Rattle.cb_matrix.specs.Values.{product};
+    ghost use Rattle.cb_operations.specs.declared.operations.Operation.TheVariants.{MultiplyMasked};
+    ghost use Rattle.cb_operations.specs.OperationAnswers.{matrix_at};
+    ghost use Rattle.cb_shares.specs.Shares.{panel};
+    ghost use Rattle.cb_kept.specs.Kept.{Keeps};
+    ghost use Rattle.cb_kept.specs.KeptCalls.{shape_faults};
+    ghost use Rattle.cb_kept.specs.KeptPanels.{allowed_by};
 
-/// The same, over the semiring of a name.
-fn panel_named(
-    alloc: Global,
-    semiring: SemiringName,
-    allowed: Allowed,
-    left: &Kept,
-    right: &Kept,
-    mask: &Kept,
-    first: u32,
-    end: u32,
-) -> Result<Kept, AllocError>
-    requires left { semiring_of left.now ≡ semiring }
-    requires right { semiring_of right.now ≡ semiring }
-    requires mask { semiring_of mask.now ≡ semiring }
-    requires agree { (matrix_in left.now).shape.cols ≡ (matrix_in right.now).shape.rows }
-    requires shape { (matrix_in mask.now).shape ≡ product_shape (matrix_in left.now) (matrix_in right.now) }
-    ensures { IfOk result (Keeps semiring (masked_panel_in allowed first end (arithmetic_of semiring) left.now right.now mask.now)) }
-{
-    over_semiring!(
-        semiring,
-        panel_over::<_>(alloc, allowed, left, right, mask, first, end)
-    )
+    type Answer = Kept;
+
+    ghost takes = { λ _ n. n ≡ 3 };
+
+    ghost faults = { λ _ s ms. shape_faults MultiplyMasked ms };
+
+    ghost gives = { λ c name s ms. Keeps name (panel (allowed_by c.call s (product s (matrix_at ms 0) (matrix_at ms 1)) (matrix_at ms 2)) c.first c.end) };
+
+    fn over<S: Keep>(&self, alloc: Global, operands: &[&PanelledMatrix<S>]) -> Result<Kept, Fault> {
+        check_shapes(Operation::MultiplyMasked, operands)?;
+        let [a, b, mask] = operands else {
+            unreachable!()
+        };
+        let a = a.whole()?;
+        let b = b.whole()?;
+        let mask = mask.whole()?;
+        let block = allowed_panel(alloc, self, a.block(), b.block(), mask.block())?;
+        Ok(keep_block::<S>(alloc, block))
+    }
 }
 
 /// Keeps the columns from `first` up to, but not including, `end` of the product of two kept matrices at the places that a kept
 /// mask allows, in the shape of the whole product. The mask's values are ignored. The faults are those of the product under
 /// the mask. Costs what that product costs for these columns.
+#[tactic(auto, unfolding(crate::specs::KeptAnswers::kept_faults))]
 pub fn kept_masked_panel(
     alloc: Global,
     allowed: Allowed,
@@ -109,6 +135,10 @@ pub fn kept_masked_panel(
 ) -> Result<Kept, Fault>
     ensures { IsAnswer (outside_faults left.now right.now mask.now) (IsKeptMaskedPanel allowed first end left.now right.now mask.now) result }
 {
-    let semiring = common_semiring(Operation::MultiplyMasked, &[left, right, mask])?;
-    Ok(panel_named(alloc, semiring, allowed, left, right, mask, first, end)?)
+    let share = Share {
+        call: allowed,
+        first,
+        end,
+    };
+    kept_call(alloc, &share, &[left, right, mask])
 }

@@ -1,163 +1,97 @@
-//! Selections from kept matrices, whose result is kept; rows and columns by their numbers; and the sum of all values.
-ghost use Rattle.std.specs.Prelude.{◌≡◌, ◌↔◌, [], ◌∷◌, length, map, IsTrue, Some, IfSome, option_copied, IfOk, IfErr};
+//! Selections from kept matrices, whose result is kept, and some columns of it; rows and columns by their numbers; and the sum
+//! of all values.
+ghost use Rattle.std.specs.Prelude.{◌≡◌, ◌↔◌, length, IsTrue, IfSome, option_copied, IfOk, IfErr};
 ghost use Rattle.cb_semirings.specs.Names.{arithmetic_of};
 ghost use Rattle.cb_reshape.specs.Sums.{matrix_total};
 ghost use Rattle.cb_operations.specs.Operands.{lent_in};
 ghost use Rattle.cb_operations.specs.OperationAnswers.{shapes_in};
 ghost use Rattle.cb_operations.specs.SelectionAnswers.{answer_of, operand_count_of, Suits};
 ghost use Rattle.cb_selections.specs.Extracted.{AreBelow, AreFew};
-ghost use Rattle.cb_selections.specs.SelectionFaults.{IsFaultOf};
 ghost use Rattle.cb_kept.specs.Answers.{IsAnswer, NoFault};
-ghost use Rattle.cb_kept.specs.Kept.{AreOver, Keeps, semiring_of, matrix_in};
-ghost use Rattle.cb_kept.specs.KeptSelections.{selection_faults, HasSelected, number_faults, IsExtractAnswer, IsExtractOf};
+ghost use Rattle.cb_kept.specs.Kept.{semiring_of, matrix_in};
+ghost use Rattle.cb_kept.specs.KeptSelections.{refusal_faults, selection_faults, HasSelected, HasSelectedColumns, number_faults, IsExtractAnswer, IsExtractOf};
 
 use crate::faults::Fault;
 use crate::keeping::{Keep, keep_block};
 use crate::kept::{Kept, of_matrix};
-use crate::kept_checks::one_semiring;
-use crate::kept_operations::whole_in;
+use crate::kept_calls::{KeptCall, kept_call};
+use crate::kept_shares::Share;
 use cb_dcsc::Block;
 use cb_layout::PanelledMatrix;
 use cb_matrix::{LIMIT, Shape};
 use cb_operations::Selection;
-use cb_selections::{SelectionFault, compute, extract};
-use cb_semirings::{Semiring, SemiringName, over_semiring};
-use cb_shares::total;
-use std::alloc::Global;
+use cb_selections::{binary, extract, unary};
+use cb_semirings::Semiring;
+use cb_shares::{selection_columns, total};
+use std::alloc::{AllocError, Global};
 
-/// The selection from one block.
-fn made_of_one<S: Semiring>(
-    alloc: Global,
-    selection: Selection,
-    a: &Block<S>,
-) -> Result<Block<S>, SelectionFault>
-    requires { operand_count_of selection ≡ 1 }
-    ensures ok { IfOk result (λ m. m ≡ answer_of selection S.arithmetic (a.now ∷ [])) }
-    ensures suits { IfOk result (λ _. Suits selection S.arithmetic (shapes_in (a.now ∷ []))) }
-    ensures fault { IfErr result (IsFaultOf selection S.arithmetic (a.now ∷ [])) }
+/// Refuses matrices from which a selection can't be made.
+fn check<S: Semiring>(selection: Selection, operands: &[&PanelledMatrix<S>]) -> Result<(), Fault>
+    requires { length operands.now ≡ operand_count_of selection }
+    ensures suits { IfOk result (λ _. Suits selection S.arithmetic (shapes_in (lent_in operands.now))) }
+    ensures none { IfOk result (λ _. NoFault (refusal_faults selection S.arithmetic (lent_in operands.now))) }
+    ensures fault { IfErr result (refusal_faults selection S.arithmetic (lent_in operands.now)) }
 {
-    compute(alloc, selection, &[a])
+    let suits = match operands {
+        [a] => selection.suits::<S>(&[a.shape()]),
+        [a, b] => selection.suits::<S>(&[a.shape(), b.shape()]),
+        _ => unreachable!(),
+    };
+    if suits {
+        Ok(())
+    } else {
+        Err(Fault::of_refusal(selection.refusal()))
+    }
 }
 
-/// The selection from two blocks.
-fn made_of_two<S: Semiring>(
+/// The selection from matrices from which it can be made.
+fn made<S: Semiring>(
     alloc: Global,
     selection: Selection,
-    a: &Block<S>,
-    b: &Block<S>,
-) -> Result<Block<S>, SelectionFault>
-    requires { operand_count_of selection ≡ 2 }
-    ensures ok { IfOk result (λ m. m ≡ answer_of selection S.arithmetic (a.now ∷ b.now ∷ [])) }
-    ensures suits { IfOk result (λ _. Suits selection S.arithmetic (shapes_in (a.now ∷ b.now ∷ []))) }
-    ensures fault { IfErr result (IsFaultOf selection S.arithmetic (a.now ∷ b.now ∷ [])) }
-{
-    compute(alloc, selection, &[a, b])
-}
-
-/// The selection from one kept matrix over a semiring.
-fn of_one<S: Keep>(
-    alloc: Global,
-    selection: Selection,
-    a: &Kept,
-) -> Result<Block<S>, SelectionFault>
-    requires count { operand_count_of selection ≡ 1 }
-    requires over { semiring_of a.now ≡ S.name }
-    ensures ok { IfOk result (λ m. m ≡ answer_of selection S.arithmetic (matrix_in a.now ∷ [])) }
-    ensures suits { IfOk result (λ _. Suits selection S.arithmetic (shapes_in (matrix_in a.now ∷ []))) }
-    ensures fault { IfErr result (IsFaultOf selection S.arithmetic (matrix_in a.now ∷ [])) }
-{
-    selection.check::<S>(&[a.shape()])?;
-    let a = whole_in::<S>(a)?;
-    made_of_one(alloc, selection, a.block())
-}
-
-/// The selection from two kept matrices over a semiring.
-fn of_two<S: Keep>(
-    alloc: Global,
-    selection: Selection,
-    a: &Kept,
-    b: &Kept,
-) -> Result<Block<S>, SelectionFault>
-    requires count { operand_count_of selection ≡ 2 }
-    requires first { semiring_of a.now ≡ S.name }
-    requires second { semiring_of b.now ≡ S.name }
-    ensures ok { IfOk result (λ m. m ≡ answer_of selection S.arithmetic (matrix_in a.now ∷ matrix_in b.now ∷ [])) }
-    ensures suits { IfOk result (λ _. Suits selection S.arithmetic (shapes_in (matrix_in a.now ∷ matrix_in b.now ∷ []))) }
-    ensures fault { IfErr result (IsFaultOf selection S.arithmetic (matrix_in a.now ∷ matrix_in b.now ∷ [])) }
-{
-    selection.check::<S>(&[a.shape(), b.shape()])?;
-    let a = whole_in::<S>(a)?;
-    let b = whole_in::<S>(b)?;
-    made_of_two(alloc, selection, a.block(), b.block())
-}
-
-/// The selection from kept matrices over a semiring.
-fn made<S: Keep>(
-    alloc: Global,
-    selection: Selection,
-    operands: &[&Kept],
-) -> Result<Block<S>, SelectionFault>
+    operands: &[&PanelledMatrix<S>],
+) -> Result<Block<S>, AllocError>
     requires count { length operands.now ≡ operand_count_of selection }
-    requires over { AreOver S.name (lent_in operands.now) }
-    ensures ok { IfOk result (λ m. m ≡ answer_of selection S.arithmetic (map matrix_in (lent_in operands.now))) }
-    ensures suits { IfOk result (λ _. Suits selection S.arithmetic (shapes_in (map matrix_in (lent_in operands.now)))) }
-    ensures fault { IfErr result (IsFaultOf selection S.arithmetic (map matrix_in (lent_in operands.now))) }
+    requires suits { Suits selection S.arithmetic (shapes_in (lent_in operands.now)) }
+    ensures { IfOk result (λ m. m ≡ answer_of selection S.arithmetic (lent_in operands.now)) }
 {
     match operands {
-        [a] => of_one::<S>(alloc, selection, a),
-        [a, b] => of_two::<S>(alloc, selection, a, b),
+        [a] => {
+            let a = a.whole()?;
+            unary(alloc, selection, a.block())
+        }
+        [a, b] => {
+            let a = a.whole()?;
+            let b = b.whole()?;
+            binary(alloc, selection, a.block(), b.block())
+        }
         _ => unreachable!(),
     }
 }
 
-/// The same, kept.
-fn made_over<S: Keep>(
-    alloc: Global,
-    selection: Selection,
-    operands: &[&Kept],
-) -> Result<Kept, SelectionFault>
-    requires count { length operands.now ≡ operand_count_of selection }
-    requires over { AreOver S.name (lent_in operands.now) }
-    ensures ok { IfOk result (Keeps S.name (answer_of selection S.arithmetic (map matrix_in (lent_in operands.now)))) }
-    ensures suits { IfOk result (λ _. Suits selection S.arithmetic (shapes_in (map matrix_in (lent_in operands.now)))) }
-    ensures fault { IfErr result (IsFaultOf selection S.arithmetic (map matrix_in (lent_in operands.now))) }
-{
-    let block = made::<S>(alloc, selection, operands)?;
-    Ok(keep_block::<S>(alloc, block))
-}
+impl KeptCall for Selection {
+    ghost use Rattle.std.specs.Prelude.{◌≡◌};
+    ghost use Rattle.cb_operations.specs.SelectionAnswers.{operand_count_of, answer_of};
+    ghost use Rattle.cb_kept.specs.Kept.{Keeps};
+    ghost use Rattle.cb_kept.specs.KeptSelections.{refusal_faults};
 
-/// The same, over the semiring of a name.
-fn made_named(
-    alloc: Global,
-    semiring: SemiringName,
-    selection: Selection,
-    operands: &[&Kept],
-) -> Result<Kept, SelectionFault>
-    requires count { length operands.now ≡ operand_count_of selection }
-    requires over { AreOver semiring (lent_in operands.now) }
-    ensures ok { IfOk result (Keeps semiring (answer_of selection (arithmetic_of semiring) (map matrix_in (lent_in operands.now)))) }
-    ensures suits { IfOk result (λ _. Suits selection (arithmetic_of semiring) (shapes_in (map matrix_in (lent_in operands.now)))) }
-    ensures fault { IfErr result (IsFaultOf selection (arithmetic_of semiring) (map matrix_in (lent_in operands.now))) }
-{
-    over_semiring!(semiring, made_over::<_>(alloc, selection, operands))
-}
+    type Answer = Kept;
 
-/// The kept selection from kept matrices, if they are over one semiring and it isn't refused.
-fn select_known(alloc: Global, selection: Selection, operands: &[&Kept]) -> Result<Kept, Fault>
-    requires { length operands.now ≡ operand_count_of selection }
-    ensures { IsAnswer (selection_faults (Some selection) (lent_in operands.now)) (HasSelected (Some selection) (lent_in operands.now)) result }
-{
-    let Some(semiring) = one_semiring(operands) else {
-        return Err(Fault::Mixed);
-    };
-    match made_named(alloc, semiring, selection, operands) {
-        Ok(kept) => Ok(kept),
-        Err(fault) => Err(Fault::of_selection(fault)),
+    ghost takes = { λ o n. n ≡ operand_count_of o };
+
+    ghost faults = { refusal_faults };
+
+    ghost gives = { λ o name s ms. Keeps name (answer_of o s ms) };
+
+    fn over<S: Keep>(&self, alloc: Global, operands: &[&PanelledMatrix<S>]) -> Result<Kept, Fault> {
+        check(*self, operands)?;
+        let block = made(alloc, *self, operands)?;
+        Ok(keep_block::<S>(alloc, block))
     }
 }
 
 /// Makes a selection from kept matrices, and keeps the result. `None` stands for an unknown region or function, or for a power
 /// without factors.
+#[tactic(auto, unfolding(crate::specs::KeptSelections::selection_faults))]
 pub fn kept_selection(
     alloc: Global,
     selection: Option<Selection>,
@@ -167,7 +101,49 @@ pub fn kept_selection(
     ensures { IsAnswer (selection_faults selection (lent_in operands.now)) (HasSelected selection (lent_in operands.now)) result }
 {
     match selection {
-        Some(known) => select_known(alloc, known, operands),
+        Some(known) => kept_call(alloc, &known, operands),
+        None => Err(Fault::Test),
+    }
+}
+
+impl KeptCall for Share<Selection> {
+    ghost use Rattle.std.specs.Prelude.{◌≡◌};
+    ghost use Rattle.cb_operations.specs.SelectionAnswers.{operand_count_of, answer_of};
+    ghost use Rattle.cb_shares.specs.Shares.{panel};
+    ghost use Rattle.cb_kept.specs.Kept.{Keeps};
+    ghost use Rattle.cb_kept.specs.KeptSelections.{refusal_faults};
+
+    type Answer = Kept;
+
+    ghost takes = { λ c n. n ≡ operand_count_of c.call };
+
+    ghost faults = { λ c s ms. refusal_faults c.call s ms };
+
+    ghost gives = { λ c name s ms. Keeps name (panel (answer_of c.call s ms) c.first c.end) };
+
+    #[tactic(auto, using(crate::proofs::SelectionFirsts::selection_fault, crate::proofs::SelectionFirsts::none_of_selection))]
+    fn over<S: Keep>(&self, alloc: Global, operands: &[&PanelledMatrix<S>]) -> Result<Kept, Fault> {
+        let block = selection_columns(alloc, self.call, operands, self.first, self.end)?;
+        Ok(keep_block::<S>(alloc, block))
+    }
+}
+
+/// Keeps the columns from `first` up to, but not including, `end` of a selection from kept matrices, in the shape of the whole
+/// result. `None` stands for an unknown region or function, or for a power without factors. The faults are those of the whole
+/// selection. Costs what [`cb_shares::selection_columns`] costs.
+#[tactic(auto, unfolding(crate::specs::KeptSelections::selection_faults))]
+pub fn kept_selection_columns(
+    alloc: Global,
+    selection: Option<Selection>,
+    operands: &[&Kept],
+    first: u32,
+    end: u32,
+) -> Result<Kept, Fault>
+    requires { IfSome selection (λ o. length operands.now ≡ operand_count_of o) }
+    ensures { IsAnswer (selection_faults selection (lent_in operands.now)) (HasSelectedColumns selection first end (lent_in operands.now)) result }
+{
+    match selection {
+        Some(call) => kept_call(alloc, &Share { call, first, end }, operands),
         None => Err(Fault::Test),
     }
 }

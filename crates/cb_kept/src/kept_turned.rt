@@ -1,19 +1,17 @@
 //! Products of two kept matrices, of which each may be transposed first. The result is kept.
-ghost use Rattle.std.specs.Prelude.{◌≡◌, ◌↔◌, IsTrue, IfOk, IfErr};
-ghost use Rattle.cb_semirings.specs.Names.{arithmetic_of};
-ghost use Rattle.cb_selections.specs.TurnedProducts.{turned_product, turned_shape};
-ghost use Rattle.cb_kept.specs.Answers.{IsAnswer, NoFault};
-ghost use Rattle.cb_kept.specs.Kept.{Keeps, semiring_of, matrix_in};
-ghost use Rattle.cb_kept.specs.KeptTurned.{AgreeTurned, turned_faults, IsKeptTurned};
+ghost use Rattle.std.specs.Prelude.{◌≡◌, ◌↔◌, IsTrue};
+ghost use Rattle.cb_selections.specs.TurnedProducts.{turned_shape};
+ghost use Rattle.cb_kept.specs.Answers.{IsAnswer};
+ghost use Rattle.cb_kept.specs.KeptTurned.{turned_faults, IsKeptTurned};
 
 use crate::faults::Fault;
 use crate::keeping::{Keep, keep_block};
 use crate::kept::Kept;
-use crate::kept_operations::whole_in;
+use crate::kept_calls::{KeptCall, kept_call};
+use cb_layout::PanelledMatrix;
 use cb_matrix::Shape;
 use cb_selections::multiply_turned;
-use cb_semirings::{SemiringName, over_semiring};
-use std::alloc::{AllocError, Global};
+use std::alloc::Global;
 
 /// Which factors of a product are transposed first.
 #[derive(Clone, Copy)]
@@ -35,58 +33,37 @@ fn agree(turns: Turns, left: Shape, right: Shape) -> bool
     inner == rows
 }
 
-/// Refuses two matrices over different semirings, and shapes that don't agree.
-fn check_turned(turns: Turns, left: &Kept, right: &Kept) -> Result<(), Fault>
-    ensures same { IfOk result (λ _. semiring_of right.now ≡ semiring_of left.now) }
-    ensures agree { IfOk result (λ _. AgreeTurned turns.left turns.right left.now right.now) }
-    ensures none { IfOk result (λ _. NoFault (turned_faults turns.left turns.right left.now right.now)) }
-    ensures fault { IfErr result (turned_faults turns.left turns.right left.now right.now) }
-{
-    if right.semiring() != left.semiring() {
-        return Err(Fault::Mixed);
-    }
-    if !agree(turns, left.shape(), right.shape()) {
-        return Err(Fault::Shapes);
-    }
-    Ok(())
-}
+impl KeptCall for Turns {
+    ghost use Rattle.std.specs.Prelude.{◌≡◌};
+    ghost use Rattle.cb_operations.specs.OperationAnswers.{matrix_at};
+    ghost use Rattle.cb_selections.specs.TurnedProducts.{turned_product, turned_shape};
+    ghost use Rattle.cb_kept.specs.declared.faults.Fault.TheVariants.{Shapes};
+    ghost use Rattle.cb_kept.specs.Kept.{Keeps};
+    ghost use Rattle.cb_kept.specs.Refusals.{Unless, IsMemory};
 
-/// The kept product over a semiring.
-fn turned_over<S: Keep>(
-    alloc: Global,
-    turns: Turns,
-    left: &Kept,
-    right: &Kept,
-) -> Result<Kept, AllocError>
-    requires left { semiring_of left.now ≡ S.name }
-    requires right { semiring_of right.now ≡ S.name }
-    requires agree { AgreeTurned turns.left turns.right left.now right.now }
-    ensures { IfOk result (Keeps S.name (turned_product S.arithmetic turns.left turns.right (matrix_in left.now) (matrix_in right.now))) }
-{
-    let a = whole_in::<S>(left)?;
-    let b = whole_in::<S>(right)?;
-    let block = multiply_turned(alloc, a.block(), turns.left, b.block(), turns.right)?;
-    Ok(keep_block::<S>(alloc, block))
-}
+    type Answer = Kept;
 
-/// The same, over the semiring of a name.
-fn turned_named(
-    alloc: Global,
-    semiring: SemiringName,
-    turns: Turns,
-    left: &Kept,
-    right: &Kept,
-) -> Result<Kept, AllocError>
-    requires left { semiring_of left.now ≡ semiring }
-    requires right { semiring_of right.now ≡ semiring }
-    requires agree { AgreeTurned turns.left turns.right left.now right.now }
-    ensures { IfOk result (Keeps semiring (turned_product (arithmetic_of semiring) turns.left turns.right (matrix_in left.now) (matrix_in right.now))) }
-{
-    over_semiring!(semiring, turned_over::<_>(alloc, turns, left, right))
+    ghost takes = { λ _ n. n ≡ 2 };
+
+    ghost faults = { λ t s ms. Unless ((turned_shape t.left (matrix_at ms 0).shape).cols ≡ (turned_shape t.right (matrix_at ms 1).shape).rows) Shapes IsMemory };
+
+    ghost gives = { λ t name s ms. Keeps name (turned_product s t.left t.right (matrix_at ms 0) (matrix_at ms 1)) };
+
+    fn over<S: Keep>(&self, alloc: Global, operands: &[&PanelledMatrix<S>]) -> Result<Kept, Fault> {
+        let [a, b] = operands else { unreachable!() };
+        if !agree(*self, a.shape(), b.shape()) {
+            return Err(Fault::Shapes);
+        }
+        let a = a.whole()?;
+        let b = b.whole()?;
+        let block = multiply_turned(alloc, a.block(), self.left, b.block(), self.right)?;
+        Ok(keep_block::<S>(alloc, block))
+    }
 }
 
 /// Multiplies two kept matrices over one semiring, and keeps the product. `turn_left` and `turn_right` say whether the first
 /// and the second are transposed first; their shapes have to agree after that.
+#[tactic(auto, using(crate::proofs::KeptFirsts::of_pair), unfolding(crate::specs::KeptTurned::turned_faults))]
 pub fn kept_turned_product(
     alloc: Global,
     left: &Kept,
@@ -100,6 +77,5 @@ pub fn kept_turned_product(
         left: turn_left,
         right: turn_right,
     };
-    check_turned(turns, left, right)?;
-    Ok(turned_named(alloc, left.semiring(), turns, left, right)?)
+    kept_call(alloc, &turns, &[left, right])
 }

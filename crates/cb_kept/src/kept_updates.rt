@@ -1,19 +1,22 @@
-//! A kept matrix updated by another one, under a mask that is kept too.
-ghost use Rattle.std.specs.Prelude.{◌≡◌, ◌↔◌, IsTrue, None, Some, IfSome, IfOk, IfErr, option_copied};
-ghost use Rattle.cb_semirings.specs.Names.{arithmetic_of};
+//! A kept matrix updated by another one, under a mask that is kept too; and some columns of it.
+ghost use Rattle.std.specs.Prelude.{◌≡◌, ◌≤◌, None, length, IfOk, IfErr, option_copied};
+ghost use Rattle.cb_operations.specs.Operands.{lent_in};
 ghost use Rattle.cb_selections.specs.Updates.{updated};
+ghost use Rattle.cb_shares.specs.Shares.{panel};
 ghost use Rattle.cb_kept.specs.Answers.{NoFault};
-ghost use Rattle.cb_kept.specs.Kept.{Keeps, semiring_of, matrix_in};
-ghost use Rattle.cb_kept.specs.KeptUpdates.{write_back_of, HaveSemiring, HaveShape, update_faults, updated_in, IsUpdate};
+ghost use Rattle.cb_kept.specs.KeptCalls.{IsCall};
+ghost use Rattle.cb_kept.specs.KeptUpdates.{write_back_of, operands_of, HaveOneShape, one_shape_faults, update_of, IsUpdate, IsUpdateOfColumns};
 
 use crate::faults::Fault;
 use crate::keeping::{Keep, keep_block};
 use crate::kept::Kept;
-use crate::kept_operations::whole_in;
+use crate::kept_calls::{KeptCall, kept_call};
+use crate::kept_shares::Share;
 use cb_dcsc::Block;
-use cb_matrix::Shape;
+use cb_layout::PanelledMatrix;
 use cb_selections::{WriteBack, update};
-use cb_semirings::{Semiring, SemiringName, over_semiring};
+use cb_semirings::Semiring;
+use cb_shares::update_columns;
 use std::alloc::{AllocError, Global};
 
 /// Returns the update of a number: the sum of 1 if it accumulates, 2 if the mask is complemented, and 4 if it replaces. No
@@ -31,45 +34,20 @@ pub fn write_back_of(flags: u32) -> Option<WriteBack>
     })
 }
 
-/// Whether a matrix and a mask, if there is one, are over a semiring.
-fn are_over(semiring: SemiringName, new: &Kept, mask: Option<&Kept>) -> bool
-    ensures { IsTrue result ↔ HaveSemiring semiring new.now (option_copied mask.entry) }
+/// Refuses matrices of different shapes.
+fn check_update<S: Semiring>(operands: &[&PanelledMatrix<S>]) -> Result<(), Fault>
+    requires some { 2 ≤ length operands.now }
+    requires few { length operands.now ≤ 3 }
+    ensures shape { IfOk result (λ _. HaveOneShape (lent_in operands.now)) }
+    ensures none { IfOk result (λ _. NoFault (one_shape_faults (lent_in operands.now))) }
+    ensures fault { IfErr result (one_shape_faults (lent_in operands.now)) }
 {
-    match mask {
-        Some(mask) => new.semiring() == semiring && mask.semiring() == semiring,
-        None => new.semiring() == semiring,
-    }
-}
-
-/// Whether a matrix and a mask, if there is one, have a shape.
-fn have_shape(shape: Shape, new: &Kept, mask: Option<&Kept>) -> bool
-    ensures { IsTrue result ↔ HaveShape shape new.now (option_copied mask.entry) }
-{
-    match mask {
-        Some(mask) => new.shape() == shape && mask.shape() == shape,
-        None => new.shape() == shape,
-    }
-}
-
-/// Refuses matrices over different semirings, and of different shapes.
-pub(crate) fn check_update(
-    how: WriteBack,
-    old: &Kept,
-    new: &Kept,
-    mask: Option<&Kept>,
-) -> Result<(), Fault>
-    ensures over { IfOk result (λ _. HaveSemiring (semiring_of old.now) new.now (option_copied mask.entry)) }
-    ensures shape { IfOk result (λ _. HaveShape (matrix_in old.now).shape new.now (option_copied mask.entry)) }
-    ensures none { IfOk result (λ _. NoFault (update_faults (Some how) old.now new.now (option_copied mask.entry))) }
-    ensures fault { IfErr result (update_faults (Some how) old.now new.now (option_copied mask.entry)) }
-{
-    if !are_over(old.semiring(), new, mask) {
-        return Err(Fault::Mixed);
-    }
-    if !have_shape(old.shape(), new, mask) {
-        return Err(Fault::Shapes);
-    }
-    Ok(())
+    let same = match operands {
+        [old, new, mask] => new.shape() == old.shape() && mask.shape() == old.shape(),
+        [old, new] => new.shape() == old.shape(),
+        _ => unreachable!(),
+    };
+    if same { Ok(()) } else { Err(Fault::Shapes) }
 }
 
 /// A block, updated without a mask.
@@ -86,78 +64,117 @@ fn update_all<'a, S: Semiring>(
     update(alloc, how, old, new, no_mask)
 }
 
-/// A block, updated under a kept mask.
-fn update_under<S: Keep>(
+/// A matrix, updated by another one, under a mask if there is one.
+fn made<S: Semiring>(
     alloc: Global,
     how: WriteBack,
-    old: &Block<S>,
-    new: &Block<S>,
-    mask: &Kept,
+    operands: &[&PanelledMatrix<S>],
 ) -> Result<Block<S>, AllocError>
-    requires over { semiring_of mask.now ≡ S.name }
-    requires shape { new.now.shape ≡ old.now.shape }
-    requires mask_shape { (matrix_in mask.now).shape ≡ old.now.shape }
-    ensures { IfOk result (λ m. m ≡ updated S.arithmetic how (Some (matrix_in mask.now)) old.now new.now) }
+    requires some { 2 ≤ length operands.now }
+    requires few { length operands.now ≤ 3 }
+    requires shape { HaveOneShape (lent_in operands.now) }
+    ensures { IfOk result (λ m. m ≡ update_of how S.arithmetic (lent_in operands.now)) }
 {
-    let allowed = whole_in::<S>(mask)?;
-    update(alloc, how, old, new, Some(allowed.block()))
+    match operands {
+        [old, new] => {
+            let old = old.whole()?;
+            let new = new.whole()?;
+            update_all(alloc, how, old.block(), new.block())
+        }
+        [old, new, mask] => {
+            let old = old.whole()?;
+            let new = new.whole()?;
+            let mask = mask.whole()?;
+            update(alloc, how, old.block(), new.block(), Some(mask.block()))
+        }
+        _ => unreachable!(),
+    }
 }
 
-/// The kept update over a semiring.
-fn update_over<S: Keep>(
+impl KeptCall for WriteBack {
+    ghost use Rattle.std.specs.Prelude.{◌≤◌};
+    ghost use Rattle.cb_kept.specs.Kept.{Keeps};
+    ghost use Rattle.cb_kept.specs.KeptUpdates.{one_shape_faults, update_of};
+
+    type Answer = Kept;
+
+    ghost takes = { λ _ n. (2 ≤ n) × (n ≤ 3) };
+
+    ghost faults = { λ _ s ms. one_shape_faults ms };
+
+    ghost gives = { λ how name s ms. Keeps name (update_of how s ms) };
+
+    fn over<S: Keep>(&self, alloc: Global, operands: &[&PanelledMatrix<S>]) -> Result<Kept, Fault> {
+        check_update(operands)?;
+        let block = made(alloc, *self, operands)?;
+        Ok(keep_block::<S>(alloc, block))
+    }
+}
+
+/// Some columns of it.
+fn updated_columns<'a, S: Semiring>(
     alloc: Global,
-    how: WriteBack,
+    share: &Share<WriteBack>,
+    operands: &[&'a PanelledMatrix<S>],
+) -> Result<Block<S>, AllocError>
+    requires some { 2 ≤ length operands.now }
+    requires few { length operands.now ≤ 3 }
+    requires shape { HaveOneShape (lent_in operands.now) }
+    ensures { IfOk result (λ m. m ≡ panel (update_of share.now.call S.arithmetic (lent_in operands.now)) share.now.first share.now.end) }
+{
+    let (how, first, end) = (share.call, share.first, share.end);
+    match operands {
+        [old, new, mask] => update_columns(alloc, how, old, new, Some(*mask), first, end),
+        [old, new] => {
+            let no_mask: Option<&'a PanelledMatrix<S>> = None;
+            update_columns(alloc, how, old, new, no_mask, first, end)
+        }
+        _ => unreachable!(),
+    }
+}
+
+impl KeptCall for Share<WriteBack> {
+    ghost use Rattle.std.specs.Prelude.{◌≤◌};
+    ghost use Rattle.cb_shares.specs.Shares.{panel};
+    ghost use Rattle.cb_kept.specs.Kept.{Keeps};
+    ghost use Rattle.cb_kept.specs.KeptUpdates.{one_shape_faults, update_of};
+
+    type Answer = Kept;
+
+    ghost takes = { λ _ n. (2 ≤ n) × (n ≤ 3) };
+
+    ghost faults = { λ _ s ms. one_shape_faults ms };
+
+    ghost gives = { λ c name s ms. Keeps name (panel (update_of c.call s ms) c.first c.end) };
+
+    fn over<S: Keep>(&self, alloc: Global, operands: &[&PanelledMatrix<S>]) -> Result<Kept, Fault> {
+        check_update(operands)?;
+        let block = updated_columns(alloc, self, operands)?;
+        Ok(keep_block::<S>(alloc, block))
+    }
+}
+
+/// Answers a call on an old matrix, a new one, and a mask if there is one.
+fn update_call<C: KeptCall>(
+    alloc: Global,
+    call: &C,
     old: &Kept,
     new: &Kept,
     mask: Option<&Kept>,
-) -> Result<Kept, AllocError>
-    requires old { semiring_of old.now ≡ S.name }
-    requires over { HaveSemiring S.name new.now (option_copied mask) }
-    requires shape { HaveShape (matrix_in old.now).shape new.now (option_copied mask) }
-    ensures { IfOk result (Keeps S.name (updated_in S.arithmetic how old.now new.now (option_copied mask.entry))) }
+) -> Result<C::Answer, Fault>
+    requires two { C.takes call.now 2 }
+    requires three { C.takes call.now 3 }
+    ensures { IsCall (C.faults call.now) (C.gives call.now) (operands_of old.now new.now (option_copied mask.entry)) result }
 {
-    let old = whole_in::<S>(old)?;
-    let new = whole_in::<S>(new)?;
-    let block = match mask {
-        Some(mask) => update_under(alloc, how, old.block(), new.block(), mask)?,
-        None => update_all(alloc, how, old.block(), new.block())?,
-    };
-    Ok(keep_block::<S>(alloc, block))
-}
-
-/// The same, over the semiring of a name.
-fn update_named(
-    alloc: Global,
-    semiring: SemiringName,
-    how: WriteBack,
-    old: &Kept,
-    new: &Kept,
-    mask: Option<&Kept>,
-) -> Result<Kept, AllocError>
-    requires old { semiring_of old.now ≡ semiring }
-    requires over { HaveSemiring semiring new.now (option_copied mask) }
-    requires shape { HaveShape (matrix_in old.now).shape new.now (option_copied mask) }
-    ensures { IfOk result (Keeps semiring (updated_in (arithmetic_of semiring) how old.now new.now (option_copied mask.entry))) }
-{
-    over_semiring!(semiring, update_over::<_>(alloc, how, old, new, mask))
-}
-
-/// The same, if the three are over one semiring and have one shape.
-fn update_known(
-    alloc: Global,
-    how: WriteBack,
-    old: &Kept,
-    new: &Kept,
-    mask: Option<&Kept>,
-) -> Result<Kept, Fault>
-    ensures { IsUpdate (Some how) old.now new.now (option_copied mask.entry) result }
-{
-    check_update(how, old, new, mask)?;
-    Ok(update_named(alloc, old.semiring(), how, old, new, mask)?)
+    match mask {
+        Some(mask) => kept_call(alloc, call, &[old, new, mask]),
+        None => kept_call(alloc, call, &[old, new]),
+    }
 }
 
 /// Keeps the old matrix, updated by a new one at the places that the mask allows ([`cb_selections::update`]). `None` for how
 /// it writes stands for an unknown number.
+#[tactic(auto, unfolding(crate::specs::KeptUpdates::update_faults))]
 pub fn kept_update(
     alloc: Global,
     how: Option<WriteBack>,
@@ -168,7 +185,28 @@ pub fn kept_update(
     ensures { IsUpdate how old.now new.now (option_copied mask.entry) result }
 {
     match how {
-        Some(known) => update_known(alloc, known, old, new, mask),
+        Some(known) => update_call(alloc, &known, old, new, mask),
+        None => Err(Fault::Test),
+    }
+}
+
+/// Keeps the columns from `first` up to, but not including, `end` of a kept matrix that is updated by a new one at the places
+/// that the mask allows, in the shape of the whole. `None` for how it writes stands for an unknown number. The faults are those
+/// of the whole update. Costs what [`cb_shares::update_columns`] costs.
+#[tactic(auto, unfolding(crate::specs::KeptUpdates::update_faults))]
+pub fn kept_update_columns(
+    alloc: Global,
+    how: Option<WriteBack>,
+    old: &Kept,
+    new: &Kept,
+    mask: Option<&Kept>,
+    first: u32,
+    end: u32,
+) -> Result<Kept, Fault>
+    ensures { IsUpdateOfColumns how first end old.now new.now (option_copied mask.entry) result }
+{
+    match how {
+        Some(call) => update_call(alloc, &Share { call, first, end }, old, new, mask),
         None => Err(Fault::Test),
     }
 }

@@ -5,7 +5,7 @@ use Rattle.cb_dcsc.specs.Columns.{with_entries}
 use Rattle.cb_shares.specs.Shares.{JoinsPanels}
 use Rattle.cb_kept.specs.Kept.{matrix_in}
 use Rattle.cb_kept.proofs.OkOrErr.{on_ok, on_err}
-use Rattle.cb_kept.proofs.kept_panels.join_over.Goals as goal
+use Rattle.cb_kept.proofs.kept_panels.append_kept.Goals as goal
 
 pub returns : goal.returns
 returns g c =
@@ -26,6 +26,6 @@ returns g c =
           (subst (λ (m : Sparse). JoinsPanels s first m (matrix_in c.keep.result)) b
           (subst (λ (m : Sparse). JoinsPanels s first last m) (sym kept.matrix) panels))) joined.panels;
       rest = on_ok r (λ same. record { semiring = rest.semiring; matrix = rest.matrix ∙ same ∙ ap (λ (m : Sparse). empty_matrix m.shape) b }) joined.rest;
-      front = on_err r (λ same. record { semiring = kept.semiring; matrix = kept.matrix ∙ same ∙ a }) joined.front;
-      back = on_err r (λ same. record { semiring = rest.semiring; matrix = rest.matrix ∙ same ∙ b }) joined.back;
+      front_stays = on_err r (λ same. record { semiring = kept.semiring; matrix = kept.matrix ∙ same ∙ a }) joined.front;
+      back_stays = on_err r (λ same. record { semiring = rest.semiring; matrix = rest.matrix ∙ same ∙ b }) joined.back;
     }

@@ -1,5 +1,0 @@
-use Rattle.std.proofs.Common.{rules}
-use Rattle.cb_kept.proofs.kept_panels.kept_panel.Goals as goal
-
-pub returns-in_err-panel_named : goal.returns-in_err-panel_named
-returns-in_err-panel_named c = let memory = c.in_ok-check_factors.ensures.none.memory in search rules
