@@ -1,5 +1,5 @@
 -- Calls on kept matrices, by what they are on matrices over one semiring.
-use Rattle.std.specs.Prelude.{◌≡◌, List, map, Result}
+use Rattle.std.specs.Prelude.{List, map, Result}
 use Rattle.cb_semirings.specs.Arithmetic.{Arithmetic}
 use Rattle.cb_semirings.specs.declared.names.SemiringName.{SemiringName}
 use Rattle.cb_semirings.specs.Names.{arithmetic_of}

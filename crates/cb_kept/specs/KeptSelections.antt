@@ -1,10 +1,9 @@
 -- Selections from kept matrices: by numbers, their faults and their results; and rows and columns by their numbers.
-use Rattle.std.specs.Prelude.{◌≡◌, ℕ, ◌<◌, ◌≤◌, ◌==◌, cond, List, length, map, All, Option, Some, None, Result}
+use Rattle.std.specs.Prelude.{◌≡◌, ℕ, ◌==◌, cond, List, map, Option, Some, None, Result}
 use Rattle.std.specs.Int.NonZero.{non_zero_u32_get}
 use Rattle.cb_semirings.specs.Arithmetic.{Arithmetic}
 use Rattle.cb_semirings.specs.Names.{arithmetic_of}
 use Rattle.cb_semirings.specs.declared.names.SemiringName.{SemiringName}
-use Rattle.cb_matrix.specs.declared.TheConstants.{LIMIT}
 use Rattle.cb_matrix.specs.Sparse.{Sparse, Extent}
 use Rattle.cb_operations.specs.declared.regions.Diagonal.{Diagonal}
 use Rattle.cb_operations.specs.declared.regions.Region.TheVariants.{Lower, Upper, On, Off}

@@ -1,4 +1,4 @@
-use Rattle.std.proofs.Common.{rules, ◌<◌, ◌≤◌, length, slice_index, map, ⊎_elim, arith}
+use Rattle.std.proofs.Common.{rules, ◌<◌, length, map, ⊎_elim, arith}
 use Rattle.cb_kept.specs.declared.triples.Triple.{Triple}
 use Rattle.cb_kept.specs.Misfits.{IsFrom, IsTripleOutside}
 use Rattle.cb_kept.proofs.FirstMisfits.{one_more, row_at, column_at}

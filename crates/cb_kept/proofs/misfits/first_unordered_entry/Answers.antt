@@ -1,4 +1,4 @@
-use Rattle.std.proofs.Common.{rules, ◌≡◌, ◌+◌, ◌<◌, ◌≤◌, length, arith}
+use Rattle.std.proofs.Common.{rules, ◌+◌, ◌<◌, arith}
 use Rattle.cb_lists.specs.Lists.{starts, count}
 use Rattle.cb_lists.proofs.Rising.{below_last}
 use Rattle.cb_kept.proofs.FirstMisfits.{all_ordered, not_start}

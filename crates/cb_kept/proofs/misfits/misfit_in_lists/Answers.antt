@@ -1,6 +1,5 @@
 use Rattle.std.proofs.Common.{rules, refl}
 use Rattle.cb_lists.specs.Lists.{HasForm, Fits, HaveLengths, AreOrdered, AreInside}
-use Rattle.cb_kept.specs.declared.faults.Fault.TheVariants.{Value}
 use Rattle.cb_kept.proofs.FirstMisfits.{no_misfit, order_misfit, place_misfit, value_misfit}
 use Rattle.cb_kept.proofs.misfits.misfit_in_lists.Goals as goal
 
