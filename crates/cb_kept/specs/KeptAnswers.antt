@@ -6,15 +6,16 @@ use Rattle.cb_semirings.specs.declared.names.SemiringName.{SemiringName}
 use Rattle.cb_semirings.specs.Names.{arithmetic_of, numbered}
 use Rattle.cb_operations.specs.declared.operations.Operation.{Operation}
 use Rattle.cb_operations.specs.declared.operations.Operation.TheVariants.{Prune}
-use Rattle.cb_operations.specs.OperationAnswers.{Agree, answer_of, shapes_in}
+use Rattle.cb_operations.specs.OperationAnswers.{answer_of}
 use Rattle.cb_kept.specs.declared.faults.Fault.{Fault}
-use Rattle.cb_kept.specs.declared.faults.Fault.TheVariants.{Test, Mixed, Shapes}
+use Rattle.cb_kept.specs.declared.faults.Fault.TheVariants.{Test, Mixed}
 use Rattle.cb_kept.specs.declared.kept.Kept.{Kept}
 use Rattle.cb_kept.specs.declared.kept_values.Summary.{Summary}
 use Rattle.cb_lists.specs.declared.lists.Columns.{Columns}
 use Rattle.cb_lists.specs.Lists.{matrix_of}
 use Rattle.cb_kept.specs.Kept.{Keeps, semiring_of, semiring_in, matrix_in, AreOver}
-use Rattle.cb_kept.specs.Refusals.{Unless, IsMemory, over}
+use Rattle.cb_kept.specs.KeptCalls.{shape_faults}
+use Rattle.cb_kept.specs.Refusals.{Unless, over}
 use Rattle.cb_kept.specs.Answers.{IsAnswer}
 
 -- the prune by the test of a number, 0 to 2, with its bound
@@ -26,7 +27,7 @@ prune_of n bound = cond (n == 0) (Some (Prune (Below bound))) (cond (n == 1) (So
 unfoldable pub kept_faults : Option Operation → List Kept → Fault → Type 0
 kept_faults None ks = λ f. f ≡ Test
 kept_faults (Some operation) ks =
-    Unless (AreOver (semiring_in ks) ks) Mixed (Unless (Agree operation (shapes_in (map matrix_in ks))) Shapes IsMemory)
+    Unless (AreOver (semiring_in ks) ks) Mixed (shape_faults operation (map matrix_in ks))
 
 -- the kept result of an operation on kept matrices, over their semiring
 abbrev pub HasMadeKept : Option Operation → List Kept → Kept → Type 0

@@ -1,7 +1,5 @@
 -- Products of kept matrices outside a mask.
 use Rattle.std.specs.Prelude.{Some, [], ◌∷◌}
-use Rattle.cb_semirings.specs.Arithmetic.{Arithmetic}
-use Rattle.cb_matrix.specs.Sparse.{Sparse}
 use Rattle.cb_matrix.specs.Values.{product}
 use Rattle.cb_operations.specs.Selected.{excluded}
 use Rattle.cb_operations.specs.declared.operations.Operation.TheVariants.{MultiplyMasked}
@@ -15,10 +13,6 @@ use Rattle.cb_kept.specs.KeptSelections.{IsKeptMade}
 abbrev pub outside_faults : Kept → Kept → Kept → Fault → Type 0
 outside_faults a b m = kept_faults (Some MultiplyMasked) (a ∷ b ∷ m ∷ [])
 
--- the product of a and b at the places where m has no entry, over a semiring
-abbrev pub outside_in : Arithmetic → Kept → Kept → Kept → Sparse
-outside_in s a b m = excluded s (product s (matrix_in a) (matrix_in b)) (matrix_in m)
-
--- the same, kept over the semiring of a
+-- the product of a and b at the places where m has no entry, kept over the semiring of a
 abbrev pub IsKeptOutside : Kept → Kept → Kept → Kept → Type 0
 IsKeptOutside a b m made = IsKeptMade (λ s x. excluded s (product s x (matrix_in b)) (matrix_in m)) a made

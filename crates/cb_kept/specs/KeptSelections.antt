@@ -48,10 +48,6 @@ IsPowerOf n (Some (Power factors)) = non_zero_u32_get factors ≡ n
 IsPowerOf n (Some _) = ⊥
 
 -- ---- from kept matrices
--- the selection suits kept matrices, over the semiring of the first
-abbrev pub SuitsKept : Selection → List Kept → Type 0
-SuitsKept selection ks = Suits selection (arithmetic_of (semiring_in ks)) (shapes_in (map matrix_in ks))
-
 -- the faults of a selection from matrices over a semiring: it is refused
 abbrev pub refusal_faults : Selection → Arithmetic → List Sparse → Fault → Type 0
 refusal_faults selection s ms = Unless (Suits selection s (shapes_in ms)) (refused_as (refusal_of selection)) IsMemory
@@ -61,7 +57,7 @@ refusal_faults selection s ms = Unless (Suits selection s (shapes_in ms)) (refus
 unfoldable pub selection_faults : Option Selection → List Kept → Fault → Type 0
 selection_faults None ks = λ f. f ≡ Test
 selection_faults (Some selection) ks =
-    Unless (AreOver (semiring_in ks) ks) Mixed (Unless (SuitsKept selection ks) (refused_as (refusal_of selection)) IsMemory)
+    Unless (AreOver (semiring_in ks) ks) Mixed (refusal_faults selection (arithmetic_of (semiring_in ks)) (map matrix_in ks))
 
 -- the selection from kept matrices, kept over their semiring
 abbrev pub HasSelected : Option Selection → List Kept → Kept → Type 0
