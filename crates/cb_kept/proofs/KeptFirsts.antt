@@ -18,7 +18,7 @@ use Rattle.cb_operations.specs.Operands.{lent_in}
 use Rattle.cb_shares.specs.Shares.{panel}
 use Rattle.cb_kept.specs.Answers.{IsAnswer}
 use Rattle.cb_kept.specs.Kept.{Keeps, semiring_of, semiring_in, AreOver}
-use Rattle.cb_kept.specs.KeptCalls.{IsCall}
+use Rattle.cb_kept.specs.CallsOver.{IsCallOverCommon}
 use Rattle.cb_kept.specs.KeptUpdates.{HaveSemiring, operands_of, one_shape_faults, update_faults, update_of, IsUpdate, IsUpdateOfColumns}
 use Rattle.cb_kept.specs.Refusals.{Unless}
 use Rattle.cb_kept.proofs.Firsts.{same_answer}
@@ -87,12 +87,12 @@ over_update old new (Some mask) h =
     All-cons P old (new ∷ mask ∷ []) refl (All-cons P new (mask ∷ []) h.0 (All-cons P mask [] h.1 (All-nil P)))
 
 module _ (how : WriteBack) (old new : Kept) where
-  pub of_update : (mask : Option Kept) (r : Result Kept Fault) → IsCall (λ s ms. one_shape_faults ms) (λ name s ms. Keeps name (update_of how s ms)) (operands_of old new mask) r → IsUpdate (Some how) old new mask r
+  pub of_update : (mask : Option Kept) (r : Result Kept Fault) → IsCallOverCommon (λ s ms. one_shape_faults ms) (λ name s ms. Keeps name (update_of how s ms)) (operands_of old new mask) r → IsUpdate (Some how) old new mask r
   unfolding update_faults
   of_update None r h = same_answer Mixed _ _ r (update_over old new None) (over_update old new None) h
   of_update (Some mask) r h = same_answer Mixed _ _ r (update_over old new (Some mask)) (over_update old new (Some mask)) h
 
-  pub of_update_columns : (first end : ℕ) (mask : Option Kept) (r : Result Kept Fault) → IsCall (λ s ms. one_shape_faults ms) (λ name s ms. Keeps name (panel (update_of how s ms) first end)) (operands_of old new mask) r → IsUpdateOfColumns (Some how) first end old new mask r
+  pub of_update_columns : (first end : ℕ) (mask : Option Kept) (r : Result Kept Fault) → IsCallOverCommon (λ s ms. one_shape_faults ms) (λ name s ms. Keeps name (panel (update_of how s ms) first end)) (operands_of old new mask) r → IsUpdateOfColumns (Some how) first end old new mask r
   unfolding update_faults
   of_update_columns first end None r h = same_answer Mixed _ _ r (update_over old new None) (over_update old new None) h
   of_update_columns first end (Some mask) r h = same_answer Mixed _ _ r (update_over old new (Some mask)) (over_update old new (Some mask)) h

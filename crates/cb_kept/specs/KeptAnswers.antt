@@ -14,7 +14,7 @@ use Rattle.cb_kept.specs.declared.kept_values.Summary.{Summary}
 use Rattle.cb_lists.specs.declared.lists.Columns.{Columns}
 use Rattle.cb_lists.specs.Lists.{matrix_of}
 use Rattle.cb_kept.specs.Kept.{Keeps, semiring_of, semiring_in, matrix_in, AreOver}
-use Rattle.cb_kept.specs.KeptCalls.{shape_faults}
+use Rattle.cb_kept.specs.CallsOver.{shape_faults}
 use Rattle.cb_kept.specs.Refusals.{Unless, over}
 use Rattle.cb_kept.specs.Answers.{IsAnswer}
 

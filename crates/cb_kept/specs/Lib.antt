@@ -1,13 +1,13 @@
 -- Refusals: the faults of calls. Answers: what a call returns.
--- Kept: kept matrices. KeptAnswers: what an operation on them returns. KeptCalls: any call on them.
--- Triples: matrices of triples. KeptTexts: texts of kept matrices. KeptGraphs: tasks on kept graphs. KeptSelections:
+-- Kept: kept matrices. CallsOver: any call on them, by what it is over one semiring. KeptAnswers: what an operation on them
+-- returns. Triples: matrices of triples. KeptTexts: texts of kept matrices. KeptGraphs: tasks on kept graphs. KeptSelections:
 -- selections from kept matrices. KeptProducts: products outside a mask. KeptTurned: products of transposes. KeptPanels:
 -- products in panels. KeptUpdates: one updated by another, under a mask. Misfits: what a fault of lists or triples is about.
 pub mod Refusals
 pub mod Answers
 pub mod Kept
 pub mod KeptAnswers
-pub mod KeptCalls
+pub mod CallsOver
 pub mod Triples
 pub mod KeptTexts
 pub mod KeptGraphs

@@ -4,7 +4,7 @@ ghost use Rattle.std.specs.Prelude.{◌≡◌, ◌<◌, ◌≤◌, [], ◌∷◌
 ghost use Rattle.cb_semirings.specs.Names.{arithmetic_of};
 ghost use Rattle.cb_operations.specs.Operands.{lent_in};
 ghost use Rattle.cb_kept.specs.Kept.{AreOver, semiring_of, matrix_in};
-ghost use Rattle.cb_kept.specs.KeptCalls.{IsCall, IsCallOver};
+ghost use Rattle.cb_kept.specs.CallsOver.{IsCallOverCommon, IsCallOver};
 
 use crate::faults::Fault;
 use crate::keeping::Keep;
@@ -145,7 +145,7 @@ pub(crate) fn kept_call<C: KeptCall>(
     requires takes { C.takes call.now (length operands.now) }
     requires some { 0 < length operands.now }
     requires few { length operands.now ≤ 3 }
-    ensures { IsCall (C.faults call.now) (C.gives call.now) (lent_in operands.now) result }
+    ensures { IsCallOverCommon (C.faults call.now) (C.gives call.now) (lent_in operands.now) result }
 {
     match one_semiring(operands) {
         Some(semiring) => call_named(alloc, semiring, call, operands),

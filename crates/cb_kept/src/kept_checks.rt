@@ -6,7 +6,7 @@ ghost use Rattle.cb_operations.specs.OperationAnswers.{operand_count_of, Agree, 
 ghost use Rattle.cb_kept.specs.declared.kept.Kept.{Kept as KeptValue};
 ghost use Rattle.cb_kept.specs.Answers.{NoFault};
 ghost use Rattle.cb_kept.specs.Kept.{AreOver, semiring_of, semiring_in};
-ghost use Rattle.cb_kept.specs.KeptCalls.{shape_faults};
+ghost use Rattle.cb_kept.specs.CallsOver.{shape_faults};
 
 use crate::faults::Fault;
 use crate::kept::Kept;

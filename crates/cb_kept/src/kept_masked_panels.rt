@@ -31,7 +31,7 @@ impl KeptCall for OutsideProduct {
     ghost use Rattle.cb_operations.specs.OperationAnswers.{matrix_at};
     ghost use Rattle.cb_operations.specs.Selected.{excluded};
     ghost use Rattle.cb_kept.specs.Kept.{Keeps};
-    ghost use Rattle.cb_kept.specs.KeptCalls.{shape_faults};
+    ghost use Rattle.cb_kept.specs.CallsOver.{shape_faults};
 
     type Answer = Kept;
 
@@ -96,7 +96,7 @@ impl KeptCall for Share<Allowed> {
     ghost use Rattle.cb_operations.specs.OperationAnswers.{matrix_at};
     ghost use Rattle.cb_shares.specs.Shares.{panel};
     ghost use Rattle.cb_kept.specs.Kept.{Keeps};
-    ghost use Rattle.cb_kept.specs.KeptCalls.{shape_faults};
+    ghost use Rattle.cb_kept.specs.CallsOver.{shape_faults};
     ghost use Rattle.cb_kept.specs.KeptPanels.{allowed_by};
 
     type Answer = Kept;

@@ -66,7 +66,7 @@ impl KeptCall for Operation {
     ghost use Rattle.std.specs.Prelude.{◌≡◌};
     ghost use Rattle.cb_operations.specs.OperationAnswers.{operand_count_of, answer_of};
     ghost use Rattle.cb_kept.specs.Kept.{Keeps};
-    ghost use Rattle.cb_kept.specs.KeptCalls.{shape_faults};
+    ghost use Rattle.cb_kept.specs.CallsOver.{shape_faults};
 
     type Answer = Kept;
 

@@ -33,7 +33,7 @@ impl KeptCall for ProductEnds {
     ghost use Rattle.cb_operations.specs.declared.operations.Operation.TheVariants.{Multiply};
     ghost use Rattle.cb_operations.specs.OperationAnswers.{matrix_at};
     ghost use Rattle.cb_shares.specs.Shares.{AreEnds};
-    ghost use Rattle.cb_kept.specs.KeptCalls.{shape_faults};
+    ghost use Rattle.cb_kept.specs.CallsOver.{shape_faults};
 
     type Answer = Vec<u32>;
 

@@ -4,7 +4,7 @@ ghost use Rattle.cb_operations.specs.Operands.{lent_in};
 ghost use Rattle.cb_selections.specs.Updates.{updated};
 ghost use Rattle.cb_shares.specs.Shares.{panel};
 ghost use Rattle.cb_kept.specs.Answers.{NoFault};
-ghost use Rattle.cb_kept.specs.KeptCalls.{IsCall};
+ghost use Rattle.cb_kept.specs.CallsOver.{IsCallOverCommon};
 ghost use Rattle.cb_kept.specs.KeptUpdates.{write_back_of, operands_of, HaveOneShape, one_shape_faults, update_of, IsUpdate, IsUpdateOfColumns};
 
 use crate::faults::Fault;
@@ -111,7 +111,7 @@ impl KeptCall for WriteBack {
     }
 }
 
-/// Some columns of it.
+/// Some columns of a matrix, updated by another one, under a mask if there is one.
 fn updated_columns<'a, S: Semiring>(
     alloc: Global,
     share: &Share<WriteBack>,
@@ -164,7 +164,7 @@ fn update_call<C: KeptCall>(
 ) -> Result<C::Answer, Fault>
     requires two { C.takes call.now 2 }
     requires three { C.takes call.now 3 }
-    ensures { IsCall (C.faults call.now) (C.gives call.now) (operands_of old.now new.now (option_copied mask.entry)) result }
+    ensures { IsCallOverCommon (C.faults call.now) (C.gives call.now) (operands_of old.now new.now (option_copied mask.entry)) result }
 {
     match mask {
         Some(mask) => kept_call(alloc, call, &[old, new, mask]),

@@ -22,7 +22,7 @@ abbrev pub IsCallOver : {X : Type 0} → (Arithmetic → List Sparse → Fault �
 IsCallOver faults gives name s ms = IsAnswer (faults s ms) (gives name s ms)
 
 -- how it ends on kept matrices: their semirings differ, or it ends as over their semiring
-abbrev pub IsCall : {X : Type 0} → (Arithmetic → List Sparse → Fault → Type 0) → (SemiringName → Arithmetic → List Sparse → X → Type 0) → List Kept → Result X Fault → Type 0
-IsCall faults gives ks =
+abbrev pub IsCallOverCommon : {X : Type 0} → (Arithmetic → List Sparse → Fault → Type 0) → (SemiringName → Arithmetic → List Sparse → X → Type 0) → List Kept → Result X Fault → Type 0
+IsCallOverCommon faults gives ks =
     IsAnswer (Unless (AreOver (semiring_in ks) ks) Mixed (faults (arithmetic_of (semiring_in ks)) (map matrix_in ks)))
     (gives (semiring_in ks) (arithmetic_of (semiring_in ks)) (map matrix_in ks))
