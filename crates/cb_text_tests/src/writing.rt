@@ -1,4 +1,5 @@
-//! Texts of matrices over grids and in panels, written by several threads.
+//! Texts of matrices over grids and in panels, and of columns, written by several threads.
+mod columns;
 mod panels;
 mod rounds;
 mod threads;

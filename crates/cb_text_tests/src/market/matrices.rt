@@ -1,10 +1,7 @@
 //! Texts that read as a matrix.
-ghost use Rattle.std.specs.Prelude.{◌≡◌};
-
-use cb_dcsc::Block;
+use super::pages::joined;
 use cb_market::{Kind, ReadFault, read};
-use cb_market_pages::{text, vertex_text};
-use cb_matrix::Matrix;
+use cb_market_pages::{LineForm, TextPages, text};
 use cb_semirings::{MinPlus, OrAnd, PlusTimes, Semiring};
 use std::alloc::{AllocError, Global};
 
@@ -161,23 +158,15 @@ fn have_long_numbers(rt: HostRuntime) {
     assert!(rt; reads_a_long_value(rt.alloc()) == Ok(true));
 }
 
-/// Writes a column as a list of vertices.
-fn list_of(alloc: Global, column: &Block<MinPlus>) -> Result<Vec<u8>, AllocError>
-    requires { column.now.shape.cols ≡ 1 }
-{
-    let vector = Matrix::<MinPlus>::from_ordered(column.shape(), column.entries()?);
-    vertex_text(alloc, &vector)
-}
-
-/// Reads a text of one column, and writes it as a list of vertices.
+/// Reads a text, and writes a line for each entry of it, with the number of its vertex and its value.
 fn of_vertices(alloc: Global, given: &[u8]) -> Result<Vec<u8>, Kind> {
     match read::<MinPlus>(alloc, given) {
         Ok(levels) => {
-            let shape = levels.shape();
-            if shape.cols() != 1 {
-                return Err(Kind::TooLarge);
+            let lines = TextPages::lines_in(&levels, LineForm::RowAndValue);
+            match joined(alloc, lines) {
+                Ok((bytes, _)) => Ok(bytes),
+                Err(AllocError) => Err(Kind::Memory),
             }
-            list_of(alloc, &levels).map_err(|_| Kind::Memory)
         }
         Err(fault) => Err(fault.kind),
     }
