@@ -46,7 +46,7 @@ static void refuse(const char *what, const char *word) {
     if (me == 0)
         fprintf(stderr,
                 "cbgrid-mpi: %s%s\n\n"
-                "usage: mpirun -n N cbgrid-mpi COMMAND FILES OPTIONS, with N = 1, 4, 9, 16, 25 or 36\n"
+                "usage: mpirun -n N cbgrid-mpi COMMAND FILES OPTIONS, with N = 1, 4, 9, 16 .. 4096, a square number\n"
                 "  multiply A B [--mask FILE]; spmv A x; transpose A; reduce A [--by rows|columns]; add A B; times A B;\n"
                 "  prune A --test below|above|equal --value NUMBER; bfs A --source VERTEX; relax A --source VERTEX\n"
                 "  options: --semiring NAME, --lane NUMBER, -o FILE, --times\n",
@@ -179,6 +179,14 @@ static uint32_t compute(const struct job *job) {
     return 0;
 }
 
+/* Reads the nth text of a job into the nth register. A file that is named before isn't read again. */
+static void read_nth(const struct job *job, const struct text *texts, int n) {
+    int same = 0;
+    while (strcmp(job->files[same], job->files[n])) same++;
+    if (same == n) read_text(&texts[n], (uint32_t)n);
+    else agree_on(cbgrid_process_copy(process, (uint32_t)same, (uint32_t)n, &process), 0);
+}
+
 /* Does a job. */
 static void run(const struct job *job) {
     struct text texts[3];
@@ -187,7 +195,7 @@ static void run(const struct job *job) {
     open_texts(texts, job->count);
     agree_on(cbgrid_process_open(semiring, (uint32_t)side, (uint32_t)me, &process), 0);
     open_lanes();
-    for (int n = 0; n < job->count; n++) read_text(&texts[n], (uint32_t)n);
+    for (int n = 0; n < job->count; n++) read_nth(job, texts, n);
     clock[1] = MPI_Wtime();
     uint32_t answer = compute(job);
     clock[2] = MPI_Wtime();
@@ -202,7 +210,7 @@ int main(int argc, char **argv) {
     MPI_Comm_rank(MPI_COMM_WORLD, &me);
     MPI_Comm_size(MPI_COMM_WORLD, &ranks);
     while (side * side < ranks) side++;
-    if (side * side != ranks || side > 6) refuse("the number of processes is none of these", "");
+    if (side * side != ranks || side > LARGEST_SIDE) refuse("the number of processes is none of these", "");
     struct job job = job_of(argv, argc);
     run(&job);
     finish(OK_STATUS);

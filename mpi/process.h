@@ -63,6 +63,9 @@ enum {
     PRUNE_EQUAL
 };
 
+/* The greatest side of a grid of processes. */
+enum { LARGEST_SIDE = 64 };
+
 /* One pointer each, passed by value. A call that changes what it points to takes it, and gives it back in `out`. */
 struct process {
     void *at;

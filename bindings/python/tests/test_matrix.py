@@ -142,7 +142,10 @@ class Kept(unittest.TestCase):
             (lambda: cbgrid.Matrix.from_triples([], [], [], (LIMIT + 1, 2)), 5, "more than"),
             (lambda: cbgrid.Matrix(np.array([[2]]), "or-and"), 9, "not a value"),
             (lambda: cbgrid.Matrix(np.array([[2]]), "none"), 1, "no such semiring"),
-            (lambda: a @ cbgrid.Matrix(np.array([[1], [1]])), 10, "shapes"),
+            (lambda: a @ cbgrid.Matrix(np.array([[1], [1]])), 10, f"shapes don't agree: {a.shape[0]} by {a.shape[1]}, 2 by 1"),
+            (lambda: a + cbgrid.Matrix(a, "min-plus"), 3, "plus-times, min-plus"),
+            (lambda: a.multiply(a.T, cbgrid.Matrix(np.array([[1, 1]]))), 10, f", {a.shape[1]} by {a.shape[0]}, 1 by 2"),
+            (lambda: cbgrid.Matrix(np.array([[1, 1]])).power(2), 11, "square: 1 by 2"),
         )
         for call, code, message in wrong:
             with self.assertRaises(cbgrid.CbgridValueError) as raised:

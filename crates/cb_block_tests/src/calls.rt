@@ -1,6 +1,6 @@
 //! Calls on blocks as values, so that a table lists them with their operands and their results. All are over plus-times: the
 //! kernels are proved for every semiring, and `bindings/c/check` compares them over each.
-ghost use Rattle.std.specs.Prelude.{◌↔◌, ◌<◌, All, IsTrue};
+ghost use Rattle.std.specs.Prelude.{◌↔◌, ◌<◌, ◌≤◌, ◌+◌, All, IsTrue};
 
 use crate::samples::{has_entries, is_right_or_refused};
 use cb_dcsc::Block;
@@ -94,13 +94,17 @@ fn selected(alloc: Global, selection: Selection, operands: &[&Block<PlusTimes>])
     }
 }
 
+/// Whether this many rows or columns from a number on are among so many.
+fn fits(first: u32, count: u32, side: u32) -> bool
+    ensures { IsTrue result ↔ (first + count ≤ side) }
+{
+    u64::from(first) + u64::from(count) <= u64::from(side)
+}
+
 /// A block in a larger one.
 fn placed(alloc: Global, part: &Block<PlusTimes>, sides: Pair, corner: Pair) -> Made {
-    let outer = shape(sides.0, sides.1)?;
-    let inner = part.shape();
-    let down = u64::from(corner.0) + u64::from(inner.rows());
-    let right = u64::from(corner.1) + u64::from(inner.cols());
-    if down > u64::from(sides.0) || right > u64::from(sides.1) {
+    let (outer, inner) = (shape(sides.0, sides.1)?, part.shape());
+    if !fits(corner.0, inner.rows(), sides.0) || !fits(corner.1, inner.cols(), sides.1) {
         return Err(SampleFault::Shape);
     }
     Ok(place(alloc, part, outer, corner)?)
@@ -325,21 +329,30 @@ pub(crate) fn is_right(alloc: Global, case: &Case<'_>) -> Result<bool, SampleFau
     makes(alloc, call, &operands, wanted)
 }
 
-/// Whether each case is right.
-pub(crate) fn are_right(alloc: Global, cases: &[Case<'_>]) -> bool {
-    for case in cases {
-        if is_right(alloc, case) != Ok(true) {
-            return false;
+/// Whether a case was made and is right.
+fn is_made(made: Result<bool, SampleFault>) -> bool {
+    made == Ok(true)
+}
+
+/// Whether each case of some tables is right.
+pub(crate) fn are_right(alloc: Global, tables: &[&[Case<'_>]]) -> bool {
+    for table in tables {
+        for case in *table {
+            if !is_made(is_right(alloc, case)) {
+                return false;
+            }
         }
     }
     true
 }
 
-/// Whether each case is right, or its error is want of memory.
-pub(crate) fn are_right_or_refused(alloc: Global, cases: &[Case<'_>]) -> bool {
-    for case in cases {
-        if !is_right_or_refused(is_right(alloc, case)) {
-            return false;
+/// Whether each case of some tables is right, or its error is want of memory.
+pub(crate) fn are_right_or_refused(alloc: Global, tables: &[&[Case<'_>]]) -> bool {
+    for table in tables {
+        for case in *table {
+            if !is_right_or_refused(is_right(alloc, case)) {
+                return false;
+            }
         }
     }
     true

@@ -68,10 +68,6 @@ const SUMS_AND_PRODUCTS: &[Case<'static>] = &[
     (Call::Times, &[((1, 0), &[]), ((1, 0), &[])], ((1, 0), &[])),
 ];
 
-fn sums_and_products() -> &'static [Case<'static>] {
-    SUMS_AND_PRODUCTS
-}
-
 const MASKS: &[Case<'static>] = &[
     (Call::Mask, &[FIRST, SECOND], ((2, 2), entries![(0, 1, 2)])),
     (
@@ -103,10 +99,6 @@ const MASKS: &[Case<'static>] = &[
         ((1, 0), &[]),
     ),
 ];
-
-fn masks() -> &'static [Case<'static>] {
-    MASKS
-}
 
 /// Columns that both blocks have, and that one of them has alone: first, last, and several in a row. In column 3 their rows
 /// alternate, and the left block's go on; in column 4 the right block's go on; the sum of column 5 is zero.
@@ -229,10 +221,6 @@ const COLUMNS: &[Case<'static>] = &[
     (Call::Exclude, &[LEFT, LEFT], NEITHER),
 ];
 
-fn columns() -> &'static [Case<'static>] {
-    COLUMNS
-}
-
 /// A column with 48 even rows. In a column that is far longer than the other, rows are searched: here if the other has two.
 const EVEN: Given<'static> = (
     (100, 1),
@@ -347,10 +335,6 @@ const FAR_LONGER: &[Case<'static>] = &[
     ),
 ];
 
-fn far_longer() -> &'static [Case<'static>] {
-    FAR_LONGER
-}
-
 /// Those that are dropped are strictly below, strictly above, or equal.
 const PRUNED: &[Case<'static>] = &[
     (
@@ -384,34 +368,16 @@ const PRUNED: &[Case<'static>] = &[
     (Call::Prune(Test::Below(1)), &[FAR_NONE], FAR_NONE),
 ];
 
-fn pruned() -> &'static [Case<'static>] {
-    PRUNED
-}
+const TABLES: &[&[Case<'static>]] = &[SUMS_AND_PRODUCTS, MASKS, COLUMNS, FAR_LONGER, PRUNED];
 
 #[test]
-fn sums_products_and_masks(rt: HostRuntime) {
-    assert!(rt; are_right(rt.alloc(), sums_and_products()));
-    assert!(rt; are_right(rt.alloc(), masks()));
-}
-
-#[test]
-fn columns_of_both_blocks_and_of_one(rt: HostRuntime) {
-    assert!(rt; are_right(rt.alloc(), columns()));
-    assert!(rt; are_right(rt.alloc(), far_longer()));
-}
-
-#[test]
-fn entries_that_pass_the_test_are_dropped(rt: HostRuntime) {
-    assert!(rt; are_right(rt.alloc(), pruned()));
+fn sums_products_masks_and_prunings(rt: HostRuntime) {
+    assert!(rt; are_right(rt.alloc(), TABLES));
 }
 
 /// Passes whichever single allocation is refused (`rt try --test --fail-alloc N`, for each N in turn): the result is
 /// right, or the error is want of memory.
 #[test]
 fn refused_memory_is_reported(rt: HostRuntime) {
-    assert!(rt; are_right_or_refused(rt.alloc(), sums_and_products()));
-    assert!(rt; are_right_or_refused(rt.alloc(), masks()));
-    assert!(rt; are_right_or_refused(rt.alloc(), columns()));
-    assert!(rt; are_right_or_refused(rt.alloc(), far_longer()));
-    assert!(rt; are_right_or_refused(rt.alloc(), pruned()));
+    assert!(rt; are_right_or_refused(rt.alloc(), TABLES));
 }

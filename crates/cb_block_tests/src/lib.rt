@@ -16,11 +16,7 @@ mod elementwise;
 #[cfg(test)]
 mod masked;
 #[cfg(test)]
-mod masked_panels;
-#[cfg(test)]
 mod matrix;
-#[cfg(test)]
-mod panels;
 #[cfg(test)]
 mod product;
 #[cfg(test)]
@@ -33,7 +29,5 @@ mod samples;
 mod selections;
 #[cfg(test)]
 mod semirings;
-#[cfg(test)]
-mod shares;
 #[cfg(test)]
 mod updates;

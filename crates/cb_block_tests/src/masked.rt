@@ -183,10 +183,6 @@ const UNDER: &[Case<'static>] = &[
     ),
 ];
 
-fn under() -> &'static [Case<'static>] {
-    UNDER
-}
-
 const OUTSIDE: &[Case<'static>] = &[
     (Call::MultiplyOutside, &[LEFT, RIGHT, NONE], PRODUCT),
     (Call::MultiplyOutside, &[LEFT, RIGHT, ALL], NONE),
@@ -222,19 +218,15 @@ const OUTSIDE: &[Case<'static>] = &[
     ),
 ];
 
-fn outside() -> &'static [Case<'static>] {
-    OUTSIDE
-}
+const TABLES: &[&[Case<'static>]] = &[UNDER, OUTSIDE];
 
 #[test]
 fn products_under_masks_and_outside_them(rt: HostRuntime) {
-    assert!(rt; are_right(rt.alloc(), under()));
-    assert!(rt; are_right(rt.alloc(), outside()));
+    assert!(rt; are_right(rt.alloc(), TABLES));
 }
 
 /// Passes whichever single allocation is refused (`rt try --test --fail-alloc N`, for each N in turn).
 #[test]
 fn a_refused_masked_product_reports_memory(rt: HostRuntime) {
-    assert!(rt; are_right_or_refused(rt.alloc(), under()));
-    assert!(rt; are_right_or_refused(rt.alloc(), outside()));
+    assert!(rt; are_right_or_refused(rt.alloc(), TABLES));
 }

@@ -198,7 +198,7 @@ const PRODUCTS: &[Case<'static>] = &[
 
 #[test]
 fn products_of_plus_times(rt: HostRuntime) {
-    assert!(rt; are_right(rt.alloc(), PRODUCTS));
+    assert!(rt; are_right(rt.alloc(), &[PRODUCTS]));
 }
 
 /// This many entries of one column, whose rows are `step` apart.
@@ -820,7 +820,7 @@ fn each_way_gives_the_plain_product(rt: HostRuntime) {
 /// right, or the error is want of memory.
 #[test]
 fn a_refused_product_reports_memory(rt: HostRuntime) {
-    assert!(rt; are_right_or_refused(rt.alloc(), PRODUCTS));
+    assert!(rt; are_right_or_refused(rt.alloc(), &[PRODUCTS]));
 }
 
 /// Whether a product is added; or, if memory is refused, whether the block is handed back unchanged.

@@ -67,13 +67,9 @@ const SUMS: &[Case<'static>] = &[
     ),
 ];
 
-fn sums() -> &'static [Case<'static>] {
-    SUMS
-}
-
 #[test]
 fn entries_are_added_up(rt: HostRuntime) {
-    assert!(rt; are_right(rt.alloc(), sums()));
+    assert!(rt; are_right(rt.alloc(), &[SUMS]));
 }
 
 /// The numbers of rows of blocks of 3,000 entries. Up to 12,003 the sums are added up in a list of all rows.
@@ -141,5 +137,5 @@ fn all_values_have_a_sum(rt: HostRuntime) {
 /// it, or its result is right.
 #[test]
 fn refused_memory_is_reported(rt: HostRuntime) {
-    assert!(rt; are_right_or_refused(rt.alloc(), sums()));
+    assert!(rt; are_right_or_refused(rt.alloc(), &[SUMS]));
 }

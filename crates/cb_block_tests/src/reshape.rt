@@ -73,10 +73,6 @@ const TRANSPOSES: &[Case<'static>] = &[
     ),
 ];
 
-fn transposes() -> &'static [Case<'static>] {
-    TRANSPOSES
-}
-
 /// Parts with one entry and with several, the whole block, an empty part, and the last place of the largest sides.
 const PARTS: &[Case<'static>] = &[
     (
@@ -127,10 +123,6 @@ const PARTS: &[Case<'static>] = &[
     ),
 ];
 
-fn parts() -> &'static [Case<'static>] {
-    PARTS
-}
-
 /// One entry and several, a block without columns, one without entries, and the last place of the largest sides.
 const PLACES: &[Case<'static>] = &[
     (
@@ -156,30 +148,16 @@ const PLACES: &[Case<'static>] = &[
     ),
 ];
 
-fn places() -> &'static [Case<'static>] {
-    PLACES
-}
+const TABLES: &[&[Case<'static>]] = &[TRANSPOSES, PARTS, PLACES];
 
 #[test]
-fn transposing_orders_by_what_was_the_row(rt: HostRuntime) {
-    assert!(rt; are_right(rt.alloc(), transposes()));
-}
-
-#[test]
-fn a_part_has_places_of_its_own(rt: HostRuntime) {
-    assert!(rt; are_right(rt.alloc(), parts()));
-}
-
-#[test]
-fn a_part_is_placed_at_its_corner(rt: HostRuntime) {
-    assert!(rt; are_right(rt.alloc(), places()));
+fn transposes_parts_and_places(rt: HostRuntime) {
+    assert!(rt; are_right(rt.alloc(), TABLES));
 }
 
 /// Passes whichever single allocation is refused (`rt try --test --fail-alloc N`, for each N in turn): the result is
 /// right, or the error is want of memory.
 #[test]
 fn refused_memory_is_reported(rt: HostRuntime) {
-    assert!(rt; are_right_or_refused(rt.alloc(), transposes()));
-    assert!(rt; are_right_or_refused(rt.alloc(), parts()));
-    assert!(rt; are_right_or_refused(rt.alloc(), places()));
+    assert!(rt; are_right_or_refused(rt.alloc(), TABLES));
 }

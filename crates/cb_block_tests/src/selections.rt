@@ -140,10 +140,6 @@ const SELECTED: &[Case<'static>] = &[
     ),
 ];
 
-fn selected() -> &'static [Case<'static>] {
-    SELECTED
-}
-
 /// Diagonals of tall, wide and square blocks, of sides of 0, without entries, and of the largest sides; and columns on
 /// diagonals.
 const DIAGONALS: &[Case<'static>] = &[
@@ -175,10 +171,6 @@ const DIAGONALS: &[Case<'static>] = &[
     (Call::DiagonalMatrix, &[((0, 1), &[])], ((0, 0), &[])),
     (Call::DiagonalMatrix, &[((4, 1), &[])], ((4, 4), &[])),
 ];
-
-fn diagonals() -> &'static [Case<'static>] {
-    DIAGONALS
-}
 
 /// Constants, sums, products, and the numbers of rows and columns. Zeros aren't stored.
 const REPLACED: &[Case<'static>] = &[
@@ -219,10 +211,6 @@ const REPLACED: &[Case<'static>] = &[
     ),
     (Call::Apply(Function::Row), &[((0, 0), &[])], ((0, 0), &[])),
 ];
-
-fn replaced() -> &'static [Case<'static>] {
-    REPLACED
-}
 
 /// Rows and columns in another order, some left out and some repeated; none; rows in order, some and all; columns without
 /// entries before them; and the last of the largest sides.
@@ -302,10 +290,6 @@ const EXTRACTED: &[Case<'static>] = &[
     ),
 ];
 
-fn extracted() -> &'static [Case<'static>] {
-    EXTRACTED
-}
-
 /// Each entry of the first block becomes a scaled copy of the second, without products that are zero; sides of 0; and the
 /// most rows that a block can have.
 const KRONECKER: &[Case<'static>] = &[
@@ -328,10 +312,6 @@ const KRONECKER: &[Case<'static>] = &[
         ((LIMIT, 2), entries![(0, 1, TOP - 1), (LAST, 1, TOP - 2)]),
     ),
 ];
-
-fn kronecker() -> &'static [Case<'static>] {
-    KRONECKER
-}
 
 /// A part inside, which loses and gains entries; one at the end; the whole; none; and the corner of the largest sides.
 const ASSIGNED: &[Case<'static>] = &[
@@ -418,46 +398,17 @@ const ASSIGNED: &[Case<'static>] = &[
     ),
 ];
 
-fn assigned() -> &'static [Case<'static>] {
-    ASSIGNED
-}
+const TABLES: &[&[Case<'static>]] = &[
+    SELECTED, DIAGONALS, REPLACED, EXTRACTED, KRONECKER, ASSIGNED,
+];
 
 #[test]
-fn entries_are_selected_by_their_place(rt: HostRuntime) {
-    assert!(rt; are_right(rt.alloc(), selected()));
-}
-
-#[test]
-fn diagonals_are_columns(rt: HostRuntime) {
-    assert!(rt; are_right(rt.alloc(), diagonals()));
-}
-
-#[test]
-fn values_are_replaced(rt: HostRuntime) {
-    assert!(rt; are_right(rt.alloc(), replaced()));
-}
-
-#[test]
-fn rows_and_columns_are_extracted(rt: HostRuntime) {
-    assert!(rt; are_right(rt.alloc(), extracted()));
-}
-
-#[test]
-fn products_of_kronecker(rt: HostRuntime) {
-    assert!(rt; are_right(rt.alloc(), kronecker()));
-}
-
-#[test]
-fn parts_are_assigned(rt: HostRuntime) {
-    assert!(rt; are_right(rt.alloc(), assigned()));
+fn selections_have_the_right_entries(rt: HostRuntime) {
+    assert!(rt; are_right(rt.alloc(), TABLES));
 }
 
 /// Passes whichever single allocation is refused (`rt try --test --fail-alloc N`, for each N in turn).
 #[test]
 fn refused_memory_is_reported(rt: HostRuntime) {
-    for cases in [
-        SELECTED, DIAGONALS, REPLACED, EXTRACTED, KRONECKER, ASSIGNED,
-    ] {
-        assert!(rt; are_right_or_refused(rt.alloc(), cases));
-    }
+    assert!(rt; are_right_or_refused(rt.alloc(), TABLES));
 }

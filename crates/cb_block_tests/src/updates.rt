@@ -138,15 +138,6 @@ const UPDATES: &[Case<'static>] = &[
     ),
 ];
 
-fn updates() -> &'static [Case<'static>] {
-    UPDATES
-}
-
-#[test]
-fn blocks_are_updated_under_masks(rt: HostRuntime) {
-    assert!(rt; are_right(rt.alloc(), updates()));
-}
-
 /// Two by three.
 const WIDE: Given<'static> = ((2, 3), entries![(0, 0, 2), (1, 1, 3), (0, 2, 5)]);
 
@@ -188,15 +179,6 @@ const PRODUCTS: &[Case<'static>] = &[
     ),
 ];
 
-fn products() -> &'static [Case<'static>] {
-    PRODUCTS
-}
-
-#[test]
-fn factors_are_transposed(rt: HostRuntime) {
-    assert!(rt; are_right(rt.alloc(), products()));
-}
-
 /// Two paths from 0 to 3, and an edge from there to 4.
 const PATHS: Given<'static> = (
     (5, 5),
@@ -231,19 +213,15 @@ const POWERS: &[Case<'static>] = &[
     ),
 ];
 
-fn powers() -> &'static [Case<'static>] {
-    POWERS
-}
+const TABLES: &[&[Case<'static>]] = &[UPDATES, PRODUCTS, POWERS];
 
 #[test]
-fn powers_are_repeated_products(rt: HostRuntime) {
-    assert!(rt; are_right(rt.alloc(), powers()));
+fn updates_turned_products_and_powers(rt: HostRuntime) {
+    assert!(rt; are_right(rt.alloc(), TABLES));
 }
 
 /// Passes whichever single allocation is refused (`rt try --test --fail-alloc N`, for each N in turn).
 #[test]
 fn refused_memory_is_reported(rt: HostRuntime) {
-    assert!(rt; are_right_or_refused(rt.alloc(), updates()));
-    assert!(rt; are_right_or_refused(rt.alloc(), products()));
-    assert!(rt; are_right_or_refused(rt.alloc(), powers()));
+    assert!(rt; are_right_or_refused(rt.alloc(), TABLES));
 }

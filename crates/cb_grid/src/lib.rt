@@ -19,14 +19,14 @@ use std::marker::Model;
 use thiserror::Error;
 
 /// The greatest side of a grid.
-pub const LARGEST_SIDE: u32 = 6;
+pub const LARGEST_SIDE: u32 = 64;
 
-/// A grid can't have this side: it isn't from 1 to 6.
+/// A grid can't have this side: it isn't from 1 to 64.
 #[derive(Clone, Copy, Debug, PartialEq, Eq, Error)]
-#[error("a grid has a side of 1 to 6")]
+#[error("a grid has a side of 1 to 64")]
 pub struct Side;
 
-/// A square grid of ranks, of side 1 to 6.
+/// A square grid of ranks, of side 1 to 64.
 #[derive(Clone, Copy, Debug, PartialEq, Eq)]
 pub struct Grid {
     side: u32,
@@ -35,12 +35,13 @@ pub struct Grid {
 impl Model for Grid {
     ghost use Rattle.std.specs.Prelude.{◌≤◌};
     ghost use Rattle.cb_grid.specs.Parts.{Square};
+    ghost use Rattle.cb_grid.specs.declared.TheConstants.{LARGEST_SIDE};
 
     ghost Value = { Square };
 
     ghost view = { λ a. record { side = a.side } };
 
-    ghost invariant = { λ a. (1 ≤ a.side) × (a.side ≤ 6) };
+    ghost invariant = { λ a. (1 ≤ a.side) × (a.side ≤ LARGEST_SIDE) };
 
     ghost inverse = { λ g. record { side = g.side } };
 }
@@ -49,9 +50,9 @@ impl Grid {
     ghost use Rattle.cb_grid.specs.Parts.{row_group, column_group, part_start};
     ghost use Rattle.std.specs.Int.{div_ceil};
 
-    /// The grid of this side, which must be from 1 to 6.
+    /// The grid of this side, which must be from 1 to 64.
     pub fn new(q: u32) -> Result<Grid, Side>
-        ensures ok { IsOk result ↔ ((1 ≤ q) × (q ≤ 6)) }
+        ensures ok { IsOk result ↔ ((1 ≤ q) × (q ≤ LARGEST_SIDE)) }
         ensures side { IfOk result (λ grid. grid.side ≡ q) }
     {
         if (1..=LARGEST_SIDE).contains(&q) {
@@ -72,7 +73,7 @@ impl Grid {
     pub fn side(&self) -> u32
         ensures value { result ≡ self.now.side }
         ensures some { 1 ≤ result }
-        ensures limit { result ≤ 6 }
+        ensures limit { result ≤ LARGEST_SIDE }
     {
         self.side
     }
@@ -81,7 +82,7 @@ impl Grid {
     pub fn ranks(&self) -> u16
         ensures value { result ≡ self.now.side * self.now.side }
         ensures some { 1 ≤ result }
-        ensures limit { result ≤ 36 }
+        ensures limit { result ≤ LARGEST_SIDE * LARGEST_SIDE }
     {
         (self.side * self.side) as u16
     }
@@ -96,7 +97,7 @@ impl Grid {
     }
 
     /// The ranks of a row, ascending, stored inline without an allocation.
-    pub fn row_group(&self, alloc: Global, row: u32) -> SmallVec<u16, 6>
+    pub fn row_group(&self, alloc: Global, row: u32) -> SmallVec<u16, 64>
         requires { row < self.now.side }
         ensures { result.items ≡ row_group self.now.side row }
     {
@@ -108,7 +109,7 @@ impl Grid {
     }
 
     /// The ranks of a column, ascending, stored inline without an allocation.
-    pub fn column_group(&self, alloc: Global, column: u32) -> SmallVec<u16, 6>
+    pub fn column_group(&self, alloc: Global, column: u32) -> SmallVec<u16, 64>
         requires { column < self.now.side }
         ensures { result.items ≡ column_group self.now.side column }
     {

@@ -47,20 +47,12 @@ next_above cs n d l up below =
     (λ (m : length cs ≤ n + 1). let past : get_or cs (n + 1) d ≡ d = get_or_past cs (n + 1) d m in omega arith)
     (cases_lt (n + 1) (length cs))
 
-module _ (q : ℕ) (shape : Extent) (blocks : List Sparse) (f : Front) (front : IsFront q shape blocks f) (i c : ℕ) (least : IsLeast f.columns i c) where
+module _ (q : ℕ) (shape : Extent) (blocks : List Sparse) (f : Front) (front : IsFront q shape blocks f) (i c : ℕ) (least : IsLeast q f.columns i c) where
   abbrev cs : List ℕ
   cs = columns_in q blocks f.column i
 
   abbrev n : ℕ
   n = get_or f.done i 0
-
-  -- the row of the least column is one of the grid, and its block has that column next
-  pub least_row : i < q
-  least_row =
-      ⊎_elim
-      (λ (k : i < q). k)
-      (λ (k : q ≤ i). let e = front.next.others i k least.row in let t = least.there in let s = least.some in absurd (omega arith))
-      (cases_lt i q)
 
   -- the block in the row of the least column has a column that is not done
   pub least_known : n < length cs
@@ -68,88 +60,67 @@ module _ (q : ℕ) (shape : Extent) (blocks : List Sparse) (f : Front) (front : 
       ⊎_elim
       (λ (k : n < length cs). k)
       (λ (k : length cs ≤ n).
-      let e = front.next.rows i least_row ∙ get_or_past cs n 4294967295 k in
+      let e = front.next i least.row ∙ get_or_past cs n 4294967295 k in
       let t = least.there in let s = least.some in
       absurd (omega arith))
       (cases_lt n (length cs))
 
   -- the least column is the first of them
   pub least_is : c ≡ get_or cs n 0
-  least_is = least.there ∙ front.next.rows i least_row ∙ get_or_default cs n 4294967295 0 least_known
+  least_is = least.there ∙ front.next i least.row ∙ get_or_default cs n 4294967295 0 least_known
 
   -- the front after it
   module _ (g : Front) (column : g.column ≡ f.column) (left : g.left ≡ f.left) (done : g.done ≡ set f.done i (n + 1)) (columns : g.columns ≡ set f.columns i (get_or cs (n + 1) 4294967295)) where
     -- in that row the front after it has the block's next column, or 2^32 - 1 if no column is left
     pub next_own : get_or g.columns i 0 ≡ get_or cs (n + 1) 4294967295
-    next_own = ap (λ xs. get_or xs i 0) columns ∙ get_or-set_same f.columns i (get_or cs (n + 1) 4294967295) 0 (let r = least.row in let s = front.six_columns in omega arith)
+    next_own = ap (λ xs. get_or xs i 0) columns ∙ get_or-set_same f.columns i (get_or cs (n + 1) 4294967295) 0 (let r = least.row in let few = front.few in let s = front.all_columns in omega arith)
 
     -- in each other row it has the column that was there
     pub next_other : (k : ℕ) → k ≢ i → get_or g.columns k 0 ≡ get_or f.columns k 0
     next_other k ne = ap (λ xs. get_or xs k 0) columns ∙ get_or-set_other f.columns i k (get_or cs (n + 1) 4294967295) 0 ne
 
     done_own : get_or g.done i 0 ≡ n + 1
-    done_own = ap (λ xs. get_or xs i 0) done ∙ get_or-set_same f.done i (n + 1) 0 (let r = least.row in let s = front.six_done in omega arith)
+    done_own = ap (λ xs. get_or xs i 0) done ∙ get_or-set_same f.done i (n + 1) 0 (let r = least.row in let few = front.few in let s = front.all_done in omega arith)
 
     done_other : (k : ℕ) → k ≢ i → get_or g.done k 0 ≡ get_or f.done k 0
     done_other k ne = ap (λ xs. get_or xs k 0) done ∙ get_or-set_other f.done i k (n + 1) 0 ne
 
     -- the columns of the front after it are the next ones of the blocks
     pub are_next : AreNext q blocks g.column g.done g.columns
-    are_next = record {
-      rows = λ k l.
-          ⊎_elim
-          (λ (p : k ≡ i). ap (λ x. get_or g.columns x 0) p ∙ next_own ∙ (λ t. get_or (columns_in q blocks (sym column t) (sym p t)) (sym (ap (λ x. get_or g.done x 0) p ∙ done_own) t) 4294967295))
-          (λ (p : k ≢ i). next_other k p ∙ front.next.rows k l ∙ (λ t. get_or (columns_in q blocks (sym column t) k) (sym (done_other k p) t) 4294967295))
-          (cases_eq k i);
-      others = λ k l m. next_other k (let r = least_row in omega arith) ∙ front.next.others k l m;
-    }
+    are_next k l =
+        ⊎_elim
+        (λ (p : k ≡ i). ap (λ x. get_or g.columns x 0) p ∙ next_own ∙ (λ t. get_or (columns_in q blocks (sym column t) (sym p t)) (sym (ap (λ x. get_or g.done x 0) p ∙ done_own) t) 4294967295))
+        (λ (p : k ≢ i). next_other k p ∙ front.next k l ∙ (λ t. get_or (columns_in q blocks (sym column t) k) (sym (done_other k p) t) 4294967295))
+        (cases_eq k i)
 
--- of the rows from the first number up to the second, one has the least column, and is the first that has it
-pub record IsLeastIn (columns : List ℕ) (from to i c : ℕ) : Type 0 where
-  pub low : from ≤ i
-  pub high : i < to
-  pub there : c ≡ get_or columns i 0
-  pub least : (k : ℕ) → from ≤ k → k < to → c ≤ get_or columns k 0
-  pub first : (k : ℕ) → from ≤ k → k < i → c < get_or columns k 0
+-- of the first n rows, row i is the first that has the least column, if one of them has a column
+pub record IsLeastSoFar (columns : List ℕ) (n i c : ℕ) : Type 0 where
+  pub least : (k : ℕ) → k < n → c ≤ get_or columns k 0
+  pub found : c < 4294967295 → (i < n) × (c ≡ get_or columns i 0) × ((k : ℕ) → k < i → c < get_or columns k 0)
 
--- a row alone
-pub least_one : (columns : List ℕ) (i j : ℕ) → j ≡ i + 1 → IsLeastIn columns i j i (get_or columns i 0)
-least_one columns i j e = record {
-  low = omega arith;
-  high = omega arith;
-  there = refl;
-  least = λ k l m. let p : i ≡ k = omega arith in let q : get_or columns i 0 ≡ get_or columns k 0 = ap (λ n. get_or columns n 0) p in omega arith;
-  first = λ k l m. absurd (omega arith);
-}
+-- before the first row
+pub least_at_first : (columns : List ℕ) (i : ℕ) → IsLeastSoFar columns 0 i 4294967295
+least_at_first columns i = record { least = λ k l. absurd (omega arith); found = λ s. absurd (omega arith) }
 
--- the least of two ranges that follow one another
-pub least_either : (columns : List ℕ) (from mid to i c k d r x : ℕ) → IsLeastIn columns from mid i c → IsLeastIn columns mid to k d → (((r ≡ i) × (x ≡ c)) × (c ≤ d)) ⊎ (((r ≡ k) × (x ≡ d)) × (d < c)) → IsLeastIn columns from to r x
-least_either columns from mid to i c k d r x a b h =
-    let al = a.low in
-    let ah = a.high in
-    let bl = b.low in
-    let bh = b.high in
-    ⊎_elim
-    (λ (h : ((r ≡ i) × (x ≡ c)) × (c ≤ d)).
-    let p = h.0.0 in
-    let q = h.0.1 in
-    let m = h.1 in
-    record {
-      low = omega arith;
-      high = omega arith;
-      there = q ∙ a.there ∙ ap (λ n. get_or columns n 0) (sym p);
-      least = λ n u v. ⊎_elim (λ (w : n < mid). let y = a.least n u w in omega arith) (λ (w : mid ≤ n). let y = b.least n w v in omega arith) (cases_lt n mid);
-      first = λ n u v. let y = a.first n u (omega arith) in omega arith;
-    })
-    (λ (h : ((r ≡ k) × (x ≡ d)) × (d < c)).
-    let p = h.0.0 in
-    let q = h.0.1 in
-    let m = h.1 in
-    record {
-      low = omega arith;
-      high = omega arith;
-      there = q ∙ b.there ∙ ap (λ n. get_or columns n 0) (sym p);
-      least = λ n u v. ⊎_elim (λ (w : n < mid). let y = a.least n u w in omega arith) (λ (w : mid ≤ n). let y = b.least n w v in omega arith) (cases_lt n mid);
-      first = λ n u v. ⊎_elim (λ (w : n < mid). let y = a.least n u w in omega arith) (λ (w : mid ≤ n). let y = b.first n w (omega arith) in omega arith) (cases_lt n mid);
-    })
-    h
+module _ (columns : List ℕ) (n i c : ℕ) (so_far : IsLeastSoFar columns n i c) where
+  -- a row with a lesser column
+  pub least_changed : get_or columns n 0 < c → IsLeastSoFar columns (n + 1) n (get_or columns n 0)
+  least_changed less = record {
+    least = λ k l.
+        ⊎_elim
+        (λ (m : k < n). let h = so_far.least k m in omega arith)
+        (λ (m : n ≤ k). let e : n ≡ k = omega arith in let h : get_or columns n 0 ≡ get_or columns k 0 = ap (λ x. get_or columns x 0) e in omega arith)
+        (cases_lt k n);
+    found = λ s. (omega arith, refl, λ k l. let h = so_far.least k l in omega arith);
+  }
+
+  -- a row without one
+  pub least_kept : c ≤ get_or columns n 0 → IsLeastSoFar columns (n + 1) i c
+  least_kept more = record {
+    least = λ k l.
+        ⊎_elim
+        (λ (m : k < n). so_far.least k m)
+        (λ (m : n ≤ k). let e : n ≡ k = omega arith in let h : get_or columns n 0 ≡ get_or columns k 0 = ap (λ x. get_or columns x 0) e in omega arith)
+        (cases_lt k n);
+    found = λ s. let f = so_far.found s in let l = f.0 in (omega arith, f.1, f.2);
+  }

@@ -13,7 +13,7 @@ use Rattle.cb_layout.specs.Fronts.{columns_in, IsLeast, IsFront}
 use Rattle.cb_layout.specs.Segments.{is_left, entries_left}
 use Rattle.cb_layout.specs.declared.front.Front.{Front}
 use Rattle.cb_grid.proofs.Parts.{row_of_rank, column_of_rank, part_below, start_there, place_below, part_order}
-use Rattle.cb_layout.proofs.Fronts.{first_is_least, none_between, next_above, least_row, least_known, least_is, next_own, next_other}
+use Rattle.cb_layout.proofs.Fronts.{first_is_least, none_between, next_above, least_known, least_is, next_own, next_other}
 use Rattle.cb_layout.proofs.Splits.{filter_none, filter_all, filter_same, filter_split}
 use Rattle.cb_layout.proofs.BlockColumns.{whole_is_matrix, columns_up, of_columns}
 
@@ -132,7 +132,7 @@ module _ (s : Arithmetic) (laws : IsSemiring s) (q : ℕ) (shape : Extent) (bloc
       ⊎_elim
       (λ (p : j ≡ f.column).
       let cs = columns_in q blocks f.column i in
-      let first : a ≡ get_or cs 0 4294967295 = front.next.rows i row ∙ ap (λ n. get_or cs n 4294967295) (start i) in
+      let first : a ≡ get_or cs 0 4294967295 = front.next i row ∙ ap (λ n. get_or cs n 4294967295) (start i) in
       let least : get_or cs 0 4294967295 ≤ x =
       of_columns s laws q shape blocks are (λ c. get_or cs 0 4294967295 ≤ c) i f.column row front.column (first_is_least cs 4294967295 (columns_up s laws q shape blocks are i f.column row front.column)) k d l (ap (λ n. i * q + n) p) in
       test_here f.column j a x p ∙ le_true a x (omega arith) ∙ sym (le_true f.column j (omega arith)))
@@ -145,8 +145,8 @@ module _ (s : Arithmetic) (laws : IsSemiring s) (q : ℕ) (shape : Extent) (bloc
       (cases_eq j f.column)
 
   -- if no block has a next column, only entries after that column of the grid are left
-  pub finished : (f : Front) → IsFront q shape blocks f → ((k : ℕ) → k < 6 → get_or f.columns k 0 ≡ 4294967295) → q ≤ 6 → All (λ e. is_left q shape f e ≡ nat_lt f.column (part_with q shape.cols e.column)) es
-  finished f front none six k d l =
+  pub finished : (f : Front) → IsFront q shape blocks f → ((k : ℕ) → k < q → 4294967295 ≤ get_or f.columns k 0) → All (λ e. is_left q shape f e ≡ nat_lt f.column (part_with q shape.cols e.column)) es
+  finished f front none k d l =
       let i = row_part k d l in
       let j = column_part k d l in
       let x = place k d l in
@@ -154,7 +154,7 @@ module _ (s : Arithmetic) (laws : IsSemiring s) (q : ℕ) (shape : Extent) (bloc
       let a = get_or f.columns i 0 in
       ⊎_elim
       (λ (p : j ≡ f.column).
-      let past : a ≡ 4294967295 = none i (omega arith) in
+      let past : 4294967295 ≤ a = none i row in
       let below = place_limit k d l in
       let limit = front.limit in
       test_here f.column j a x p ∙ le_false a x (omega arith) ∙ sym (lt_false f.column j (omega arith)))
@@ -166,9 +166,9 @@ module _ (s : Arithmetic) (laws : IsSemiring s) (q : ℕ) (shape : Extent) (bloc
   all_left f front start first = filter_all (is_left q shape f) es (λ k d l. started f front start k d l ∙ le_true f.column (column_part k d l) (omega arith))
 
   -- as many at the start of the next column of the grid as at the end of one
-  pub next_left : (f g : Front) → IsFront q shape blocks f → ((k : ℕ) → k < 6 → get_or f.columns k 0 ≡ 4294967295) → q ≤ 6 → IsFront q shape blocks g → ((i : ℕ) → get_or g.done i 0 ≡ 0) → g.column ≡ f.column + 1
+  pub next_left : (f g : Front) → IsFront q shape blocks f → ((k : ℕ) → k < q → 4294967295 ≤ get_or f.columns k 0) → IsFront q shape blocks g → ((i : ℕ) → get_or g.done i 0 ≡ 0) → g.column ≡ f.column + 1
       → entries_left s q shape blocks g ≡ entries_left s q shape blocks f
-  next_left f g front none six next start column =
+  next_left f g front none next start column =
       filter_same (is_left q shape g) (is_left q shape f) es (λ k d l.
       let j = column_part k d l in
       started g next start k d l
@@ -176,14 +176,14 @@ module _ (s : Arithmetic) (laws : IsSemiring s) (q : ℕ) (shape : Extent) (bloc
       (λ (m : f.column < j). le_true g.column j (omega arith) ∙ sym (lt_true f.column j m))
       (λ (m : j ≤ f.column). le_false g.column j (omega arith) ∙ sym (lt_false f.column j m))
       (cases_lt f.column j)
-      ∙ sym (finished f front none six k d l))
+      ∙ sym (finished f front none k d l))
 
   -- and none at the end of the last
-  pub none_left : (f : Front) → IsFront q shape blocks f → ((k : ℕ) → k < 6 → get_or f.columns k 0 ≡ 4294967295) → q ≤ 6 → q ≤ f.column + 1 → entries_left s q shape blocks f ≡ []
-  none_left f front none six last =
-      filter_none (is_left q shape f) es (λ k d l. let below = column_part_below k d l in finished f front none six k d l ∙ lt_false f.column (column_part k d l) (omega arith))
+  pub none_left : (f : Front) → IsFront q shape blocks f → ((k : ℕ) → k < q → 4294967295 ≤ get_or f.columns k 0) → q ≤ f.column + 1 → entries_left s q shape blocks f ≡ []
+  none_left f front none last =
+      filter_none (is_left q shape f) es (λ k d l. let below = column_part_below k d l in finished f front none k d l ∙ lt_false f.column (column_part k d l) (omega arith))
 
-  module _ (six : q ≤ 6) (f : Front) (front : IsFront q shape blocks f) (i c : ℕ) (least : IsLeast f.columns i c) (g : Front) (column : g.column ≡ f.column) (left : g.left ≡ f.left)
+  module _ (f : Front) (front : IsFront q shape blocks f) (i c : ℕ) (least : IsLeast q f.columns i c) (g : Front) (column : g.column ≡ f.column) (left : g.left ≡ f.left)
       (done : g.done ≡ set f.done i (get_or f.done i 0 + 1)) (columns : g.columns ≡ set f.columns i (get_or (columns_in q blocks f.column i) (get_or f.done i 0 + 1) 4294967295)) where
     abbrev cs : List ℕ
     cs = columns_in q blocks f.column i
@@ -196,7 +196,7 @@ module _ (s : Arithmetic) (laws : IsSemiring s) (q : ℕ) (shape : Extent) (bloc
     is_next e = (part_with q shape.rows e.row * q + part_with q shape.cols e.column == i * q + f.column) && (place_in_part q shape.cols e.column == get_or cs (get_or f.done i 0) 0)
 
     row : i < q
-    row = least_row q shape blocks f front i c least
+    row = least.row
 
     known : get_or f.done i 0 < length cs
     known = least_known q shape blocks f front i c least
@@ -314,7 +314,7 @@ module _ (s : Arithmetic) (laws : IsSemiring s) (q : ℕ) (shape : Extent) (bloc
             (λ (w : row_part k d kl < i). let first = least.first (row_part k d kl) w in omega arith)
             (λ (w : i ≤ row_part k d kl).
             let row_below = row_part_below k d kl in
-            let lowest : c ≤ get_or f.columns (row_part k d kl) 0 = least.least (row_part k d kl) (omega arith) in
+            let lowest : c ≤ get_or f.columns (row_part k d kl) 0 = least.least (row_part k d kl) row_below in
             let same : (get_or es k d).column ≡ (get_or es m d).column = omega arith in
             let less : (get_or es k d).row < (get_or es m d).row = ⊎_elim (λ h. absurd (omega arith)) (λ h. h.1) before in
             let last : row_part k d kl ≤ row_part m d l = part_order q shape.rows are.some (get_or es k d).row (get_or es m d).row (inside k d kl).0 (omega arith) in

@@ -5,6 +5,7 @@ use Rattle.cb_matrix.specs.declared.Entry.{Entry}
 use Rattle.cb_matrix.specs.declared.TheConstants.{LIMIT}
 use Rattle.cb_matrix.specs.Sparse.{Extent, Sparse}
 use Rattle.cb_dcsc.specs.Compressed.{entries_in}
+use Rattle.cb_grid.specs.declared.TheConstants.{LARGEST_SIDE}
 use Rattle.cb_grid.specs.Parts.{part_start}
 use Rattle.cb_grid.specs.Blocks.{part_with, place_in_part, glued_blocks}
 use Rattle.cb_layout.specs.Distributed.{AreBlocks}
@@ -36,5 +37,5 @@ pub record AreSegments (s : Arithmetic) (q : ℕ) (shape : Extent) (blocks : Lis
   pub are_blocks : AreBlocks s q shape blocks
   pub front : IsFront q shape blocks f
   pub limit : shape.rows ≤ LIMIT
-  pub six : length tops ≡ 6
+  pub all : length tops ≡ LARGEST_SIDE
   pub begin : (i : ℕ) → i < q → slice_index tops i ≡ part_start q shape.rows i

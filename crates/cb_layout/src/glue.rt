@@ -14,9 +14,8 @@ use cb_semirings::Semiring;
 use std::alloc::{AllocError, Global};
 
 /// The matrix of a shape from the block of each rank, in the order of their numbers. The blocks are merged column by
-/// column, so the entries come in the matrix's order. Each stored column of a block costs finding the least of six
-/// numbers: the next columns of the blocks in its column of the grid. The cost is that of the stored entries, never of
-/// the shape.
+/// column, so the entries come in the matrix's order. Each stored column of a block costs finding the least of as many
+/// numbers as the grid has rows: the next columns of the blocks in its column of the grid. No cost depends on the shape.
 pub fn gather<S: Semiring>(
     alloc: Global,
     grid: &Grid,

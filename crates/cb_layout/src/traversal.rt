@@ -7,9 +7,9 @@ ghost use Rattle.cb_layout.specs.Fronts.{IsFront};
 ghost use Rattle.cb_layout.specs.Panels.{entries_of_panels};
 ghost use Rattle.cb_layout.specs.Segments.{shifted, entries_left};
 
-use crate::front::{Front, block_in};
+use crate::front::{Front, MOST_ROWS, block_in};
 use cb_dcsc::Block;
-use cb_grid::Grid;
+use cb_grid::{Grid, LARGEST_SIDE};
 use cb_matrix::{Entry, LIMIT, Shape};
 use cb_semirings::Semiring;
 use std::alloc::AllocError;
@@ -30,7 +30,7 @@ pub struct Segment<'a> {
 }
 
 /// The remaining segments of a matrix over a grid or in panels, by column and then by row. Contracts see the remaining
-/// entries. Each segment costs finding the least of six numbers; no cost depends on a dimension.
+/// entries. Each segment costs finding the least of as many numbers as the grid has rows; no cost depends on a dimension.
 #[derive(Drop)]
 pub struct Segments<'a, S: Semiring> {
     /// Those of the panel that the walk has come to. A matrix over a grid is a single panel.
@@ -117,7 +117,7 @@ pub(crate) struct GridSegments<'a, S: Semiring> {
     shape: Shape,
     blocks: &'a [Block<S>],
     /// The first row of each row of the grid.
-    tops: [u32; 6],
+    tops: [u32; MOST_ROWS],
     front: Front,
 }
 
@@ -187,7 +187,7 @@ impl<'a, S: Semiring> GridSegments<'a, S> {
         let top = self.tops[row as usize];
         let column = self.front.left + column;
         let n = self.front.done[row as usize];
-        self.front.step(row, block.column_numbers());
+        self.front.step(self.grid, row, block.column_numbers());
         let (rows, values) = block.nth_column(n);
         Some(Segment {
             column,
@@ -199,11 +199,11 @@ impl<'a, S: Semiring> GridSegments<'a, S> {
 }
 
 /// The first row of each row part.
-fn tops(grid: Grid, rows: u32) -> [u32; 6]
-    ensures six { length result ≡ 6 }
+fn tops(grid: Grid, rows: u32) -> [u32; MOST_ROWS]
+    ensures all { length result ≡ LARGEST_SIDE }
     ensures tops { (i : ℕ) → i < grid.side → slice_index result i ≡ part_start grid.side rows i }
 {
-    let mut tops = [0; 6];
+    let mut tops = [0; MOST_ROWS];
     for part in 0..grid.side() {
         let (top, _) = grid.range(rows, part);
         tops[part as usize] = top;

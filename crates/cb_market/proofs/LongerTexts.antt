@@ -14,7 +14,7 @@ use Rattle.cb_market_lines.specs.Cursor.{is_line_end, line_at, after_line}
 use Rattle.cb_market_lines.specs.Checks.{is_shape, header_fault, header_of, size_fault, size_of}
 use Rattle.cb_market_lines.specs.Faults.{body_matrix, entries_fault, entries_fault_from, given}
 use Rattle.cb_market_lines.proofs.Bodies.{body_is, body_first, matrix_first}
-use Rattle.cb_market.specs.Pieces.{is_whole, MayFollow, IsBody, IsOpening}
+use Rattle.cb_market.specs.Pieces.{is_whole, first_size, MayFollow, IsBody, IsOpening}
 use Rattle.cb_market.proofs.PartedTexts.{lines_parted}
 
 -- ---- the end
@@ -111,6 +111,7 @@ past_on n text j rest more (inr w) p = past_longer n text more w.0 ∙ ap (λ i.
 pub has_body : (s : Arithmetic) (header : Header) (n : ℕ) (text : List ℕ) (size : Size) (line : ℕ × List (List ℕ)) (j : ℕ) (rest : List ℕ) → kept_from n text ≡ line ∷ kept_from j rest → past_last j rest ≡ past_last n text
     → size_fault header line.1 ≡ None → size ≡ size_of line.1 → IsBody s header n text size j rest
 has_body s header n text size line j rest k p none is = record {
+  size_is = is ∙ sym (ap first_size k);
   fault = λ more h.
       body_is s header (past_last n (text ++ more)) (kept_from n (text ++ more)) line (kept_from j (rest ++ more)) (kept_on n text line j rest more h k p) none
       ∙ ap (λ (m : ℕ). entries_fault s header (size_of line.1).shape m (size_of line.1).count (kept_from j (rest ++ more))) (past_on n text j rest more h p)
@@ -132,7 +133,10 @@ opens s text start rest header n size line entries h e f g k l shape body =
     let after : rest ≡ after_line text = g ∙ ap after_line e in
     let then : (more : List ℕ) → MayFollow text entries more → rest ++ more ≡ after_line (text ++ more) = λ more m. ap (λ r. r ++ more) after ∙ sym (after_on text entries more h m) in
     let follows : (more : List ℕ) → MayFollow text entries more → MayFollow rest entries more = λ more m. subst (λ r. MayFollow r entries more) (sym after) (follows_on text entries more m) in
+    let lines_after : kept_from n rest ≡ kept_from 2 (after_line text) = ap (λ i. kept_from i rest) f ∙ ap (kept_from 2) after in
     record {
+      header_is = l ∙ ap (λ t. header_of (words (line_at t))) e;
+      size_is = body.size_is ∙ ap first_size lines_after;
       shape = shape;
       fault = λ more m. body_first s (text ++ more) (text ++ more) (rest ++ more) header n (some more) refl f (then more m) (none more m) (is more m) ∙ body.fault more (follows more m);
       matrix = λ more m. matrix_first s (text ++ more) (text ++ more) (rest ++ more) header n (some more) refl f (then more m) (is more m) ∙ body.matrix more (follows more m);

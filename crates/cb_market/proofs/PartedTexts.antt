@@ -1,5 +1,5 @@
 -- A text in parts: its lines give what the lines of its parts give, in order.
-use Rattle.std.proofs.Common.{◌≡◌, ◌≢◌, ℕ, ◌+◌, ◌-◌, ◌<◌, ◌≤◌, true, false, not, List, [], ◌∷◌, ◌++◌, arith, length, map, filter, sym, ap, ◌∙◌, refl, append_assoc, subst, None, Some, Option, ⊎_elim, zero, suc, take, get_or, length-append}
+use Rattle.std.proofs.Common.{◌≡◌, ◌≢◌, ℕ, ◌+◌, ◌-◌, ◌<◌, ◌≤◌, true, false, not, List, [], ◌∷◌, ◌++◌, arith, length, map, filter, sym, ap, ◌∙◌, refl, append_assoc, subst, None, Some, Option, ⊎_elim, inl, inr, zero, suc, take, get_or, length-append}
 use Rattle.std.proofs.lemmas.List.Concat.{flat_map-append}
 use Rattle.std.specs.Prelude.{◌==◌, IfSome, Ok}
 use Rattle.std.proofs.lemmas.Bool.{cases_Bool}
@@ -67,9 +67,19 @@ kept_append ks ls = ap (filter (λ ws. not (is_skipped ws))) (map-append words k
 pub kept_parted : (a b : List ℕ) → is_whole a ≡ true → kept (lines (a ++ b)) ≡ kept (lines a) ++ kept (lines b)
 kept_parted a b e = ap kept (lines_parted a b e) ∙ kept_append (lines a) (lines b)
 
+-- also where nothing comes after the first part
+pub kept_followed : (a b : List ℕ) → MayFollow a [] b → kept (lines (a ++ b)) ≡ kept (lines a) ++ kept (lines b)
+unfolding lines cut_lines
+kept_followed a b (inl e) =
+    ap (λ t. kept (lines (a ++ t))) e
+    ∙ ap (λ t. kept (lines t)) (append-nil a)
+    ∙ sym (append-nil (kept (lines a)))
+    ∙ ap (λ t. kept (lines a) ++ kept (lines t)) (sym e)
+kept_followed a b (inr w) = kept_parted a b w.0
+
 -- ---- what they give
 -- lines without a fault, after such lines
-faultless_both : (s : Arithmetic) (header : Header) (shape : Extent) (vs ws : List (List (List ℕ))) → AreFaultless s header shape vs → AreFaultless s header shape ws → AreFaultless s header shape (vs ++ ws)
+pub faultless_both : (s : Arithmetic) (header : Header) (shape : Extent) (vs ws : List (List (List ℕ))) → AreFaultless s header shape vs → AreFaultless s header shape ws → AreFaultless s header shape (vs ++ ws)
 faultless_both s header shape [] ws a b = b
 faultless_both s header shape (v ∷ vs) ws a b = (a.0, faultless_both s header shape vs ws a.1 b)
 

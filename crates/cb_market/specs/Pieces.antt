@@ -7,8 +7,9 @@ use Rattle.cb_matrix.specs.Values.{collected}
 use Rattle.cb_market_lines.specs.declared.header.Header.{Header}
 use Rattle.cb_market_lines.specs.declared.size.Size.{Size}
 use Rattle.cb_market.specs.Gathered.{AreSamePlaces}
-use Rattle.cb_market_lines.specs.Lines.{lines, kept, kept_from}
-use Rattle.cb_market_lines.specs.Checks.{is_shape, entry_fault, entry_of, given_by}
+use Rattle.cb_market_lines.specs.Lines.{lines, words, kept, kept_from}
+use Rattle.cb_market_lines.specs.Cursor.{line_at, after_line}
+use Rattle.cb_market_lines.specs.Checks.{is_shape, header_of, size_of, entry_fault, entry_of, given_by}
 use Rattle.cb_market_lines.specs.Faults.{body_fault_from, body_matrix_from, first_fault, matrix_in, entries_fault_from, given}
 
 -- no text, or one whose last byte is a line feed
@@ -51,15 +52,31 @@ pub record IsPart (s : Arithmetic) (header : Header) (shape : Extent) (side : �
 abbrev pub MayFollow : List ℕ → List ℕ → List ℕ → Type 0
 MayFollow text end more = (more ≡ []) ⊎ ((is_whole text ≡ true) × (is_whole end ≡ true))
 
+-- the header that the first line of a text writes
+abbrev pub header_in : List ℕ → Header
+header_in text = header_of (words (line_at text))
+
+-- the size that the first of some lines writes
+abbrev pub first_size : List (ℕ × List (List ℕ)) → Size
+first_size [] = size_of []
+first_size (line ∷ lines) = size_of line.1
+
+-- the size that a text writes: its first line after the header that isn't skipped
+abbrev pub size_in : List ℕ → Size
+size_in text = first_size (kept_from 2 (after_line text))
+
 -- The lines after a header, of which the first has the number n, begin with a size: their first fault and what they
 -- give are those of the entries, which begin at a line. It is so whatever follows them.
 pub record IsBody (s : Arithmetic) (header : Header) (n : ℕ) (text : List ℕ) (size : Size) (line : ℕ) (entries : List ℕ) : Type 0 where
+  pub size_is : size ≡ first_size (kept_from n text)
   pub fault : (more : List ℕ) → MayFollow text entries more → body_fault_from s header n (text ++ more) ≡ entries_fault_from s header size line (entries ++ more)
   pub matrix : (more : List ℕ) → MayFollow text entries more → body_matrix_from s header n (text ++ more) ≡ collected s size.shape (given s header (kept_from line (entries ++ more)))
 
--- A text that begins with a header and a size: its first fault is that of its entries, which begin at a line, and its
+-- A text that begins with this header and this size: its first fault is that of its entries, which begin at a line, and its
 -- matrix has what they give. It is so whatever follows the text.
 pub record IsOpening (s : Arithmetic) (text : List ℕ) (header : Header) (size : Size) (line : ℕ) (entries : List ℕ) : Type 0 where
+  pub header_is : header ≡ header_in text
+  pub size_is : size ≡ size_in text
   pub shape : is_shape header.symmetry size.shape ≡ true
   pub fault : (more : List ℕ) → MayFollow text entries more → first_fault s (text ++ more) ≡ entries_fault_from s header size line (entries ++ more)
   pub matrix : (more : List ℕ) → MayFollow text entries more → matrix_in s (text ++ more) ≡ collected s size.shape (given s header (kept_from line (entries ++ more)))

@@ -1,7 +1,7 @@
 -- The steps of the check.
-use Rattle.std.proofs.Common.{◌≡◌, ℕ, ◌+◌, ◌<◌, ◌≤◌, List, [], ◌∷◌, length, get_or, drop, refl, sym, ap, ◌∙◌}
+use Rattle.std.proofs.Common.{◌≡◌, ℕ, ◌+◌, ◌<◌, ◌≤◌, List, [], ◌∷◌, ◌++◌, length, get_or, drop, refl, sym, ap, ◌∙◌}
 use Rattle.std.specs.Prelude.{Option, Some, None, if◌then◌else◌}
-use Rattle.std.proofs.lemmas.List.{drop_more, drop_all}
+use Rattle.std.proofs.lemmas.List.{drop_more}
 use Rattle.cb_matrix.specs.Sparse.{Extent}
 use Rattle.cb_plan.specs.declared.acts.Act.{Act}
 use Rattle.cb_plan.specs.declared.acts.Start.{Start}
@@ -11,6 +11,7 @@ use Rattle.cb_plan.specs.declared.plans.PlanFaultKind.TheVariants as kind_is
 use Rattle.cb_plan.specs.Meaning.{State, act}
 use Rattle.cb_plan.specs.Algebras.{shapes}
 use Rattle.cb_plan.specs.Checks.{Lanes, CheckState, SetSlot, DidAct, slots_in, lanes_in, started_from, started, act_fault, fault_or, fault_from, shut_after, are_all_shut, fault_in, plan_fault, IsStarted}
+use Rattle.cb_plan.proofs.StoredActs.{second_left}
 
 -- the elements from one on begin with it
 pub next_element : {X : Type 0} (xs : List X) (i : ℕ) (x : X) → i < length xs → x ≡ get_or xs i x → drop i xs ≡ x ∷ drop (i + 1) xs
@@ -29,7 +30,8 @@ pub fault_here : (ranks n : ℕ) (state : State Extent) (shut : Lanes) (a : Act)
 unfolding fault_from
 fault_here ranks n state shut a acts = refl
 
-fault_end : (ranks n : ℕ) (state : State Extent) (shut : Lanes) → fault_from ranks n state shut [] ≡ (if are_all_shut ranks shut then None else Some (record { act = n; kind = kind_is.NotShut }))
+-- at the end, it is a lane that isn't shut, if there is one
+pub fault_end : (ranks n : ℕ) (state : State Extent) (shut : Lanes) → fault_from ranks n state shut [] ≡ (if are_all_shut ranks shut then None else Some (record { act = n; kind = kind_is.NotShut }))
 unfolding fault_from
 fault_end ranks n state shut = refl
 
@@ -53,12 +55,6 @@ fault_next acts i a old new x l e f is h =
     ∙ ap (λ k. fault_or i k (fault_from old.ranks (i + 1) (act shapes a (slots_in old.slots)) (shut_after a (lanes_in old.shut)) (drop (i + 1) acts))) f)
     ∙ h
 
--- past the last act, the first fault is a lane that is not shut, if there is one
-pub fault_at_end : (acts : List Act) (i : ℕ) (o : CheckState) (x : Option PlanFault) → length acts ≤ i →
-    fault_from o.ranks i (slots_in o.slots) (lanes_in o.shut) (drop i acts) ≡ x → (if are_all_shut o.ranks (lanes_in o.shut) then None else Some (record { act = i; kind = kind_is.NotShut })) ≡ x
-fault_at_end acts i o x l h =
-    sym (ap (fault_from o.ranks i (slots_in o.slots) (lanes_in o.shut)) (drop_all i acts l) ∙ fault_end o.ranks i (slots_in o.slots) (lanes_in o.shut)) ∙ h
-
 -- the same if the number of ranks is known by another name
 pub found : (acts : List Act) (i n ranks : ℕ) (a : Act) (o : CheckState) (kind : PlanFaultKind) (x : Option PlanFault) → o.ranks ≡ ranks → n ≡ i → i < length acts → a ≡ get_or acts i a → fault_in o a ≡ Some kind →
     fault_from ranks i (slots_in o.slots) (lanes_in o.shut) (drop i acts) ≡ x → Some (record { act = n; kind = kind }) ≡ x
@@ -71,12 +67,14 @@ next acts i ranks a old new x r l e f is h =
     ap (λ ranks. fault_from ranks (i + 1) (slots_in new.slots) (lanes_in new.shut) (drop (i + 1) acts)) (sym r)
     ∙ fault_next acts i a old new x l e f is (ap (λ ranks. fault_from ranks i (slots_in old.slots) (lanes_in old.shut) (drop i acts)) r ∙ h)
 
--- the end, likewise
-pub at_end : (acts : List Act) (i n ranks : ℕ) (o : CheckState) (x : Option PlanFault) → o.ranks ≡ ranks → n ≡ i → length acts ≤ i →
-    fault_from ranks i (slots_in o.slots) (lanes_in o.shut) (drop i acts) ≡ x → (if are_all_shut o.ranks (lanes_in o.shut) then None else Some (record { act = n; kind = kind_is.NotShut })) ≡ x
-at_end acts i n ranks o x r m l h =
-    ap (λ n. if are_all_shut o.ranks (lanes_in o.shut) then None else Some (record { act = n; kind = kind_is.NotShut })) m
-    ∙ fault_at_end acts i o x l (ap (λ ranks. fault_from ranks i (slots_in o.slots) (lanes_in o.shut) (drop i acts)) r ∙ h)
+-- past the acts that are stored, the first fault is that of the acts after them
+pub past_stored : (acts rest : List Act) (i n ranks : ℕ) (o : CheckState) (x : Option PlanFault) → o.ranks ≡ ranks → n ≡ i → length acts ≤ i → i ≤ length acts →
+    fault_from ranks i (slots_in o.slots) (lanes_in o.shut) (drop i (acts ++ rest)) ≡ x → fault_from o.ranks n (slots_in o.slots) (lanes_in o.shut) rest ≡ x
+past_stored acts rest i n ranks o x r m l k h =
+    ap (λ ranks. fault_from ranks n (slots_in o.slots) (lanes_in o.shut) rest) r
+    ∙ ap (λ n. fault_from ranks n (slots_in o.slots) (lanes_in o.shut) rest) m
+    ∙ sym (ap (fault_from ranks i (slots_in o.slots) (lanes_in o.shut)) (second_left acts rest i l k))
+    ∙ h
 
 -- before the first act, the first fault of the acts is that of the plan
 pub from_start : (ranks : ℕ) (starts : List Start) (acts : List Act) (o : CheckState) (x : Option PlanFault) → IsStarted ranks starts o → x ≡ fault_from o.ranks 0 (slots_in o.slots) (lanes_in o.shut) acts → x ≡ plan_fault ranks starts acts

@@ -10,6 +10,12 @@
 --   `lanes_after-append`, of two lists; `move_is_sound` and `shut_is_sound`, of one act; `passes_check`, acts that
 --   pass and shut each lane have no fault, and conversely `checked_passes` and `checked_shuts`.
 -- CheckSteps: `next_element`, the rest of a list from the next element on.
+-- StoredActs: the acts that a plan stores, and those after them: an act of the first is one of both (`is_inside`,
+--   `same_element`), and past the first the second are left (`second_left`).
+-- ShutMeaning: shutting lanes changes no slot: `shut_nothing`; nor does a plan's end, `closings_do_nothing`.
+-- ShutCounts: how many acts shut all lanes: `count_shut`.
+-- ShutCheck: shutting all lanes passes the check if they are open (`shut_acts_pass`), and shuts each
+--   (`all_shut_after`).
 -- Ranges: lists over a range of numbers that grows, by an element (`pushed`) or by a list (`extended`).
 -- Cells: tables: `set_is_table` and `cell_after_set`, one place set; `blank_is_table` and `blank_cell`, one
 --   value everywhere.
@@ -23,9 +29,16 @@ pub mod Ranges
 pub mod Cells
 pub mod ActOnStores
 pub mod CheckSteps
--- The steps of this crate's own proofs. AllOfRange: loops over ranges. ProjectionSteps: a projection. SlotCounts:
--- slots that are not empty. FittingStores: stores that fit a plan, by their count.
+pub mod StoredActs
+pub mod ShutMeaning
+pub mod ShutCounts
+pub mod ShutCheck
+-- The steps of this crate's own proofs. AllOfRange: loops over ranges. ProjectionSteps: a projection. ClosingSteps:
+-- the check of a plan's end. ClosingHalves: its projection. SlotCounts: slots that are not empty. FittingStores: stores
+-- that fit a plan, by their count.
 pub mod AllOfRange
 pub mod ProjectionSteps
+pub mod ClosingSteps
+pub mod ClosingHalves
 pub mod SlotCounts
 pub mod FittingStores

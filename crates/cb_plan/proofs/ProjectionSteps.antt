@@ -1,7 +1,6 @@
 -- The steps of a projection.
-use Rattle.std.proofs.Common.{◌≡◌, ℕ, ◌+◌, ◌<◌, ◌≤◌, List, ◌++◌, length, get_or, drop, refl, sym, ap, ◌∙◌, append_assoc, append-nil}
+use Rattle.std.proofs.Common.{◌≡◌, ℕ, ◌+◌, ◌<◌, ◌≤◌, List, [], ◌++◌, length, get_or, drop, refl, sym, ap, ◌∙◌, append_assoc, append-nil}
 use Rattle.std.specs.Prelude.{Option, None}
-use Rattle.std.proofs.lemmas.List.{drop_all}
 use Rattle.cb_plan.specs.declared.acts.Act.{Act}
 use Rattle.cb_plan.specs.declared.acts.Half.{Half}
 use Rattle.cb_plan.specs.Algebras.{shapes}
@@ -11,6 +10,7 @@ use Rattle.cb_plan.specs.Checks.{CheckState, IsSound, IsStarted, DidAct, fault_f
 use Rattle.cb_plan.specs.Programs.{Projects, half_list, halves_of, project_from}
 use Rattle.cb_plan.proofs.CheckSteps.{next_element, from_start}
 use Rattle.cb_plan.proofs.PassingActs.{no_fault_next}
+use Rattle.cb_plan.proofs.StoredActs.{second_left}
 
 -- before the first act of a checked plan, none of its acts has a fault
 pub no_fault_at_start : (p : CheckedView) (o : CheckState) → IsChecked p → IsStarted p.ranks p.starts o → fault_from o.ranks 0 (slots_in o.slots) (lanes_in o.shut) p.acts ≡ None
@@ -39,7 +39,11 @@ module _ (ranks : ℕ) (acts : List Act) (r i : ℕ) (o : CheckState) (halves wh
         ∙ projects.so_far;
   }
 
--- past the last act the program is whole
-pub all_projected : (ranks : ℕ) (acts : List Act) (r i : ℕ) (o : CheckState) (halves whole : List Half) → Projects ranks acts r i o halves whole → length acts ≤ i → halves ≡ whole
-all_projected ranks acts r i o halves whole projects l =
-    sym (ap (λ x. halves ++ project_from (slots_in o.slots) x r) (drop_all i acts l) ∙ append-nil halves) ∙ projects.so_far
+module _ (ranks : ℕ) (acts rest : List Act) (r i : ℕ) (o : CheckState) (halves whole : List Half) (projects : Projects ranks (acts ++ rest) r i o halves whole) (l : length acts ≤ i) (m : i ≤ length acts) where
+  -- past the acts that are stored, the program lacks the halves of those after them
+  pub rest_projected : (more : List Half) → project_from (slots_in o.slots) rest r ≡ more → halves ++ more ≡ whole
+  rest_projected more e = sym (ap (λ x. halves ++ project_from (slots_in o.slots) x r) (second_left acts rest i l m) ∙ ap (λ x. halves ++ x) e) ∙ projects.so_far
+
+  -- if there are none, it is whole
+  pub all_projected : rest ≡ [] → halves ≡ whole
+  all_projected none = sym (append-nil halves) ∙ rest_projected [] (ap (λ x. project_from (slots_in o.slots) x r) none)

@@ -1,5 +1,5 @@
 -- A plan, and a checked plan, as contracts see them.
-use Rattle.std.specs.Prelude.{◌≡◌, ◌≢◌, ℕ, ◌<◌, ◌≤◌, ◌⊎◌, List, length, All, AllPairs, None}
+use Rattle.std.specs.Prelude.{◌≡◌, ◌≢◌, ℕ, ◌+◌, ◌<◌, ◌≤◌, ◌⊎◌, Bool, if◌then◌else◌, List, ◌++◌, length, All, AllPairs, None}
 use Rattle.cb_plan.specs.declared.acts.Act.{Act}
 use Rattle.cb_plan.specs.declared.acts.Start.{Start}
 use Rattle.cb_plan.specs.declared.plans.PlanFault.{PlanFault}
@@ -7,12 +7,17 @@ use Rattle.cb_plan.specs.declared.plans.PlanFaultKind.TheVariants as kind_is
 use Rattle.cb_plan.specs.declared.plans.TheConstants.{MOST_ACTS}
 use Rattle.cb_plan.specs.declared.stores.TheConstants.{SLOTS}
 use Rattle.cb_plan.specs.Checks.{plan_fault}
+use Rattle.cb_plan.specs.Closings.{shut_acts}
 
 pub record PlanView : Type 0 where
   pub ranks : ℕ
   pub acts : List Act
   -- how many acts fit without more memory
   pub room : ℕ
+
+-- how many acts fit into the memory for stored acts: none after those of a plan that closes
+abbrev pub room_in : ℕ → List Act → Bool → ℕ → ℕ
+room_in ranks stored closes capacity = if closes then length (stored ++ shut_acts ranks) else capacity
 
 -- the fault of a plan that can't have more acts
 abbrev pub too_long : PlanView → PlanFault
@@ -21,6 +26,14 @@ too_long plan = record { act = length plan.acts; kind = kind_is.TooLong }
 -- the fault that memory was refused
 abbrev pub no_memory : PlanFault
 no_memory = record { act = 0; kind = kind_is.Memory }
+
+-- with these acts added the plan is too long
+abbrev pub IsTooLong : PlanView → List Act → Type 0
+IsTooLong plan acts = MOST_ACTS < length plan.acts + length acts
+
+-- why acts are refused: the plan would be too long, or else memory was refused
+abbrev pub IsRefusal : PlanView → List Act → PlanFault → Type 0
+IsRefusal plan acts fault = (IsTooLong plan acts × (fault ≡ too_long plan)) ⊎ (fault ≡ no_memory)
 
 pub record CheckedView : Type 0 where
   pub ranks : ℕ

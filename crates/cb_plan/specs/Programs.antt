@@ -1,5 +1,6 @@
 -- The program of each rank.
-use Rattle.std.specs.Prelude.{◌≡◌, ℕ, ◌==◌, if◌then◌else◌, List, [], ◌∷◌, ◌++◌, Option, Some, None, drop}
+use Rattle.std.specs.Prelude.{◌≡◌, ℕ, ◌==◌, if◌then◌else◌, List, [], ◌∷◌, ◌++◌, Option, Some, None, drop, flat_map}
+use Rattle.std.specs.List.{range_with_len}
 use Rattle.cb_letters.specs.declared.Tag.{Tag}
 use Rattle.cb_matrix.specs.Sparse.{Extent}
 use Rattle.cb_plan.specs.declared.acts.Act.{Act}
@@ -34,6 +35,14 @@ project_from state (a ∷ acts) r = halves_of state a r ++ project_from (act sha
 -- the program of a rank
 abbrev pub project : List Start → List Act → ℕ → List Half
 project starts acts r = project_from (started starts) acts r
+
+-- a rank shuts its lane to another
+abbrev pub own_shut : ℕ → ℕ → List Half
+own_shut r to = if r == to then [] else half_is.Shut to ∷ []
+
+-- what a rank does when all lanes from a sender are shut
+abbrev pub closing_halves : ℕ → ℕ → ℕ → List Half
+closing_halves ranks r from = if from == r then flat_map (own_shut r) (range_with_len 0 ranks) else half_is.End from ∷ []
 
 -- a rank's program after the first i acts, with the state of the check there; `whole` has all its halves
 pub record Projects (ranks : ℕ) (acts : List Act) (r i : ℕ) (o : CheckState) (halves whole : List Half) : Type 0 where

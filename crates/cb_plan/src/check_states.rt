@@ -54,6 +54,13 @@ impl CheckState {
         Ok(state)
     }
 
+    /// The number of ranks.
+    pub(crate) fn ranks(&self) -> u16
+        ensures { result ≡ self.now.ranks }
+    {
+        self.ranks
+    }
+
     /// The shape in a slot, if it isn't empty.
     pub(crate) fn slot(&self, rank: u16, slot: u16) -> Option<Shape>
         requires rank { rank < self.now.ranks }
@@ -349,7 +356,7 @@ impl CheckState {
     ghost use Rattle.cb_plan.specs.Checks.{all_hold, are_all_shut};
 
     /// Whether a lane is shut. A rank has no lane to itself, which counts as shut.
-    fn is_shut(&self, from: u16, to: u16) -> bool
+    pub(crate) fn is_shut(&self, from: u16, to: u16) -> bool
         requires from { from < self.now.ranks }
         requires to { to < self.now.ranks }
         ensures { result ≡ (from == to) || lanes_in self.now.shut from to }

@@ -1,6 +1,7 @@
 //! The check of a plan: what its acts mean, on shapes alone.
-ghost use Rattle.std.specs.Prelude.{◌≡◌, ◌<◌, ◌≤◌, ◌⊎◌, ℕ, length, All, AllPairs, IfOk, IfErr, Option, Some, None};
+ghost use Rattle.std.specs.Prelude.{◌≡◌, ◌<◌, ◌≤◌, ◌⊎◌, ℕ, [], ◌++◌, length, All, AllPairs, IfOk, IfErr, Option, Some, None};
 ghost use Rattle.cb_plan.specs.Checks.{plan_fault};
+ghost use Rattle.cb_plan.specs.Closings.{closings};
 ghost use Rattle.cb_plan.specs.Plans.{CheckedView, IsChecked, IsElsewhere};
 ghost use Rattle.cb_plan.specs.declared.plans.PlanFaultKind.TheVariants.{Memory};
 
@@ -30,8 +31,8 @@ impl CheckedPlan {
     /// Checks a plan. The fault is that of the first act that has one, and there the first in the order of
     /// [`PlanFaultKind`]. A refused plan comes back as it was. The starts must name what exists, and each slot once.
     ///
-    /// Each act costs the same. Besides a copy of the starts, the check takes room for 256 shapes per rank, and for
-    /// each lane.
+    /// Each act that is stored costs the same, and the end of a plan that shuts all lanes a look at each lane. Besides a
+    /// copy of the starts, the check takes room for 256 shapes per rank, and for each lane.
     pub fn check(
         alloc: Global,
         plan: Plan,
@@ -44,7 +45,7 @@ impl CheckedPlan {
         ensures back { IfErr result (λ e. e.0 ≡ plan) }
         ensures fault { IfErr result (λ e. (e.1 ≡ record { act = 0; kind = Memory }) ⊎ (plan_fault plan.ranks starts.now plan.acts ≡ Some e.1)) }
     {
-        match first_fault(alloc, plan.ranks(), starts, plan.acts()) {
+        match first_fault(alloc, &plan, starts) {
             Ok(None) => {}
             Ok(Some(fault)) => return Err((plan, fault)),
             Err(error) => return Err((plan, PlanFault::from(error))),
@@ -71,12 +72,20 @@ impl CheckedPlan {
         &self.starts
     }
 
-    /// The acts, in order.
-    pub fn acts(&self) -> &[Act]
-        ensures acts { result.now ≡ self.now.acts }
+    /// The number of its acts.
+    pub fn len(&self) -> usize
+        ensures value { result ≡ length self.now.acts }
+        ensures limit { result ≤ MOST_ACTS }
+    {
+        self.plan.len()
+    }
+
+    /// The acts as the plan keeps them: those that are stored, in order, and whether all lanes are shut after them.
+    pub fn stored(&self) -> (&[Act], bool)
+        ensures acts { self.now.acts ≡ result.0.now ++ closings self.now.ranks result.1 }
         ensures checked { IsChecked self.now }
     {
-        self.plan.acts()
+        self.plan.stored()
     }
 }
 
@@ -102,25 +111,26 @@ impl Planned {
 /// The first fault of a plan, if it has one.
 fn first_fault(
     alloc: Global,
-    ranks: u16,
+    plan: &Plan,
     starts: &[Start],
-    acts: &[Act],
 ) -> Result<Option<PlanFault>, AllocError>
-    requires starts { All (λ s. (s.rank < ranks) × (s.slot < SLOTS)) starts.now }
-    requires few { length acts.now ≤ MOST_ACTS }
-    ensures { IfOk result (λ fault. fault ≡ plan_fault ranks starts.now acts.now) }
+    requires { All (λ s. (s.rank < plan.now.ranks) × (s.slot < SLOTS)) starts.now }
+    ensures { IfOk result (λ fault. fault ≡ plan_fault plan.now.ranks starts.now plan.now.acts) }
 {
-    let mut state = CheckState::started(alloc, ranks, starts)?;
-    Ok(state.fault_among(acts))
+    let mut state = CheckState::started(alloc, plan.ranks(), starts)?;
+    let (acts, closes) = plan.stored();
+    Ok(state.fault_among(acts, closes))
 }
 
 impl CheckState {
+    ghost use Rattle.std.specs.Prelude.{◌+◌};
+    ghost use Rattle.cb_plan.specs.Closings.{shut_acts};
     ghost use Rattle.cb_plan.specs.Checks.{fault_from, slots_in, lanes_in};
 
-    /// The first fault of the acts from here on, if they have one.
-    fn fault_among(&mut self, acts: &[Act]) -> Option<PlanFault>
-        requires { length acts.now ≤ MOST_ACTS }
-        ensures { result ≡ fault_from self.old.ranks 0 (slots_in self.old.slots) (lanes_in self.old.shut) acts.now }
+    /// The first fault of the acts from here on, and of shutting all lanes after them if the plan closes.
+    fn fault_among(&mut self, acts: &[Act], closes: bool) -> Option<PlanFault>
+        requires { length (acts.now ++ closings self.old.ranks closes) ≤ MOST_ACTS }
+        ensures { result ≡ fault_from self.old.ranks 0 (slots_in self.old.slots) (lanes_in self.old.shut) (acts.now ++ closings self.old.ranks closes) }
     {
         let mut number = 0;
         for act in acts {
@@ -130,6 +140,17 @@ impl CheckState {
             self.pass(act);
             number += 1;
         }
+        if closes {
+            self.fault_at_closing(number)
+        } else {
+            self.fault_at_end(number)
+        }
+    }
+
+    /// The fault of a plan that ends here, before this act: a lane that isn't shut.
+    fn fault_at_end(&self, number: u32) -> Option<PlanFault>
+        ensures { result ≡ fault_from self.now.ranks number (slots_in self.now.slots) (lanes_in self.now.shut) [] }
+    {
         if self.is_all_shut() {
             None
         } else {
@@ -138,5 +159,28 @@ impl CheckState {
                 kind: PlanFaultKind::NotShut,
             })
         }
+    }
+
+    /// The fault of a plan that shuts all lanes from this act on, and ends: the first lane that is shut already.
+    fn fault_at_closing(&self, mut number: u32) -> Option<PlanFault>
+        requires { number + length (shut_acts self.now.ranks) ≤ MOST_ACTS }
+        ensures { result ≡ fault_from self.now.ranks number (slots_in self.now.slots) (lanes_in self.now.shut) (shut_acts self.now.ranks) }
+    {
+        let ranks = self.ranks();
+        for from in 0..ranks {
+            for to in 0..ranks {
+                if from == to {
+                    continue;
+                }
+                if self.is_shut(from, to) {
+                    return Some(PlanFault {
+                        act: number,
+                        kind: PlanFaultKind::AfterShut,
+                    });
+                }
+                number += 1;
+            }
+        }
+        None
     }
 }

@@ -1,7 +1,8 @@
 //! Plans, which grow act by act, and the faults that a plan may have.
-ghost use Rattle.std.specs.Prelude.{◌≡◌, ◌<◌, ◌≤◌, ◌+◌, [], ◌∷◌, ◌++◌, length, vec_capacity, if◌then◌else◌, is_ok, IsOk, IfErr, OnOk, ◌⊎◌, Err};
+ghost use Rattle.std.specs.Prelude.{◌≡◌, ◌<◌, ◌≤◌, ◌+◌, [], ◌∷◌, ◌++◌, length, vec_capacity, if◌then◌else◌, is_ok, IsOk, IfOk, IfErr, OnOk, ◌⊎◌, Err};
 ghost use Rattle.cb_plan.specs.declared.plans.TheConstants.{MOST_ACTS};
-ghost use Rattle.cb_plan.specs.Plans.{PlanView, too_long, no_memory};
+ghost use Rattle.cb_plan.specs.Closings.{shut_from, shut_acts, closings};
+ghost use Rattle.cb_plan.specs.Plans.{PlanView, room_in, too_long, no_memory, IsTooLong, IsRefusal};
 
 use crate::acts::{Act, Op, Start};
 use std::alloc::{AllocError, Global};
@@ -73,19 +74,22 @@ pub struct Planned {
     pub result: u16,
 }
 
-/// The acts of all ranks, in one order: at most `MOST_ACTS`.
+/// The acts of all ranks, in one order: at most `MOST_ACTS`. If the last ones shut all lanes, it keeps that fact in their
+/// place, so they take no memory.
 #[derive(Drop)]
 pub struct Plan {
     ranks: u16,
-    acts: Vec<Act>,
+    stored: Vec<Act>,
+    /// Whether all lanes are shut after the stored acts.
+    closes: bool,
 }
 
 impl Model for Plan {
     ghost Value = { PlanView };
 
-    ghost view = { λ p. record { ranks = p.ranks; acts = p.acts.items; room = vec_capacity p.acts } };
+    ghost view = { λ p. record { ranks = p.ranks; acts = p.stored.items ++ closings p.ranks p.closes; room = room_in p.ranks p.stored.items p.closes (vec_capacity p.stored) } };
 
-    ghost invariant = { λ p. length p.acts.items ≤ MOST_ACTS };
+    ghost invariant = { λ p. length (p.stored.items ++ closings p.ranks p.closes) ≤ MOST_ACTS };
 }
 
 impl Plan {
@@ -98,7 +102,8 @@ impl Plan {
     {
         Plan {
             ranks,
-            acts: Vec::new(alloc),
+            stored: Vec::new(alloc),
+            closes: false,
         }
     }
 
@@ -114,30 +119,45 @@ impl Plan {
         ensures value { result ≡ length self.now.acts }
         ensures limit { result ≤ MOST_ACTS }
     {
-        self.acts.len()
+        if self.closes {
+            self.stored.len() + lanes_between(self.ranks)
+        } else {
+            self.stored.len()
+        }
     }
 
-    /// The acts, in order.
-    pub fn acts(&self) -> &[Act]
-        ensures { result.now ≡ self.now.acts }
+    /// The acts as the plan keeps them: those that are stored, in order, and whether all lanes are shut after them.
+    pub fn stored(&self) -> (&[Act], bool)
+        ensures acts { self.now.acts ≡ result.0.now ++ closings self.now.ranks result.1 }
+        ensures limit { length self.now.acts ≤ MOST_ACTS }
     {
-        &self.acts
+        (&self.stored, self.closes)
     }
 
     /// Makes room, so that the next `count` pushes take no memory. If there is room already, or `count` is 0, it takes
-    /// none.
+    /// none. After [`Plan::shut_all`] there is room for no act.
     pub fn reserve(&mut self, count: usize) -> Result<(), AllocError>
         ensures ranks { self.new.ranks ≡ self.old.ranks }
         ensures acts { self.new.acts ≡ self.old.acts }
         ensures room { OnOk result (length self.new.acts + count ≤ self.new.room) }
+        ensures kept { self.old.room ≤ self.new.room }
         ensures granted { length self.old.acts + count ≤ self.old.room → IsOk result }
         ensures none { count ≡ 0 → IsOk result }
     {
-        self.acts.reserve(count)?;
+        if self.closes {
+            if count == 0 {
+                return Ok(());
+            }
+            self.stored = with_closings(&self.stored, self.ranks)?;
+            self.closes = false;
+        }
+        self.stored.reserve(count)?;
         Ok(())
     }
 
     /// Appends an act. It is refused with TooLong, then Memory; a refusal leaves the plan as it was.
+    ///
+    /// After [`Plan::shut_all`] it first stores the acts that shut the lanes.
     pub fn push(&mut self, act: Act) -> Result<(), PlanFault>
         ensures ranks { self.new.ranks ≡ self.old.ranks }
         ensures acts { self.new.acts ≡ (if is_ok result then self.old.acts ++ act ∷ [] else self.old.acts) }
@@ -148,13 +168,34 @@ impl Plan {
     {
         // For the borrow check alone: it knows a type inside an act only if the body names it.
         let _none: Option<Op> = None;
-        if self.acts.len() == MOST_ACTS {
+        if self.len() == MOST_ACTS {
             return Err(self.too_long());
         }
-        if self.acts.reserve(1).is_err() {
+        if self.reserve(1).is_err() {
             return Err(PlanFault::from(AllocError));
         }
-        self.acts.push_reserved(act);
+        self.stored.push_reserved(act);
+        Ok(())
+    }
+
+    /// Shuts every lane between two ranks, by sender and then by addressee. It is refused if the plan would be too long.
+    /// It stores no act, and takes memory only if the plan ends so already.
+    pub fn shut_all(&mut self) -> Result<(), PlanFault>
+        ensures ranks { self.new.ranks ≡ self.old.ranks }
+        ensures acts { self.new.acts ≡ (if is_ok result then self.old.acts ++ shut_acts self.old.ranks else self.old.acts) }
+        ensures long { IsTooLong self.old (shut_acts self.old.ranks) → result ≡ Err (too_long self.old) }
+        ensures faults { IfErr result (IsRefusal self.old (shut_acts self.old.ranks)) }
+    {
+        if lanes_between(self.ranks) > MOST_ACTS - self.len() {
+            return Err(self.too_long());
+        }
+        if self.closes {
+            let Ok(stored) = with_closings(&self.stored, self.ranks) else {
+                return Err(PlanFault::from(AllocError));
+            };
+            self.stored = stored;
+        }
+        self.closes = true;
         Ok(())
     }
 
@@ -163,7 +204,7 @@ impl Plan {
         ensures { result ≡ too_long self.now }
     {
         PlanFault {
-            act: self.acts.len() as u32,
+            act: self.len() as u32,
             kind: PlanFaultKind::TooLong,
         }
     }
@@ -187,4 +228,40 @@ impl Plan {
         }
         Ok(())
     }
+}
+
+/// The number of lanes between two ranks.
+#[tactic(auto, using(crate::proofs::ShutCounts::count_shut))]
+fn lanes_between(ranks: u16) -> usize
+    ensures value { result ≡ length (shut_acts ranks) }
+    ensures limit { result ≤ MOST_ACTS }
+{
+    usize::from(ranks) * usize::from(ranks.saturating_sub(1))
+}
+
+/// These acts, and then those that shut all lanes.
+fn with_closings(stored: &Vec<Act>, ranks: u16) -> Result<Vec<Act>, AllocError>
+    ensures { IfOk result (λ acts. acts.items ≡ stored.now.items ++ shut_acts ranks) }
+{
+    // For the borrow check, as in `Plan::push`.
+    let _none: Option<Op> = None;
+    let mut acts = Vec::from_slice(*stored.allocator(), stored)?;
+    for from in 0..ranks {
+        shut_each(&mut acts, ranks, from)?;
+    }
+    Ok(acts)
+}
+
+/// Shuts the lanes from a rank to each other rank.
+fn shut_each(acts: &mut Vec<Act>, ranks: u16, from: u16) -> Result<(), AllocError>
+    ensures { OnOk result (acts.new.items ≡ acts.old.items ++ shut_from ranks from) }
+{
+    // For the borrow check, as in `Plan::push`.
+    let _none: Option<Op> = None;
+    for to in 0..ranks {
+        if from != to {
+            acts.push(Act::Shut { from, to })?;
+        }
+    }
+    Ok(())
 }

@@ -1,13 +1,13 @@
 -- What each step of the sums of columns, and of rows, does to the slots, over blocks of any kind.
-use Rattle.std.proofs.Common.{◌≡◌, ◌≢◌, ℕ, zero, suc, ◌+◌, ◌-◌, ◌*◌, ◌/◌, ◌%◌, ◌<◌, ◌≤◌, true, false, List, [], ◌∷◌, ◌++◌, map, inl, refl, sym, ap, subst, ◌∙◌, arith}
-use Rattle.std.specs.Prelude.{Option, Some, ◌==◌, nat_lt, nat_le}
+use Rattle.std.proofs.Common.{◌≡◌, ◌≢◌, ℕ, zero, suc, ◌+◌, ◌-◌, ◌*◌, ◌/◌, ◌%◌, ◌<◌, ◌≤◌, ◌++◌, map, inl, refl, ap, subst, ◌∙◌, arith}
+use Rattle.std.specs.Prelude.{Option, Some, ◌==◌}
 use Rattle.std.specs.List.{range_with_len}
 use Rattle.std.proofs.lemmas.Bool.Decides.{nat_tests}
 use Rattle.cb_matrix.specs.Sparse.{Extent}
-use Rattle.cb_plan.specs.declared.acts.Op.{Op}
 use Rattle.cb_plan.specs.declared.acts.Op.TheVariants as op_is
 use Rattle.cb_plan.specs.Meaning.{Algebra, State, meaning, one}
 use Rattle.cb_plan.proofs.Effects.{split, meaning-append}
+use Rattle.cb_grid.specs.declared.TheConstants.{LARGEST_SIDE}
 use Rattle.cb_grid.specs.Parts.{part, part_length}
 use Rattle.cb_grid.proofs.Parts.{rank_below}
 use Rattle.cb_plan_parts.specs.PlanParts.{each_rank}
@@ -15,29 +15,29 @@ use Rattle.cb_plan_parts.proofs.Everywhere.{each_here, each_elsewhere}
 use Rattle.cb_plan_parts.proofs.Grid.{at_place}
 use Rattle.cb_plan_operations.specs.GridPlans.{mirror_acts}
 use Rattle.cb_plan_operations.specs.VectorPlans.{each_works, piece_broadcasts, sum_ops}
-use Rattle.cb_plan_operations.specs.ReductionPlans.{own_cut, own_cuts, own_ops, own_sums, gathered_sums, column_sums_acts, turned_sums_acts, turn_back_acts, row_sums_acts, turned}
+use Rattle.cb_plan_operations.specs.ReductionPlans.{own_cut, own_cuts, own_ops, own_sums, gathered_sums, turned_sums_acts, turn_back_acts}
 use Rattle.cb_plan_operations.proofs.RankPrograms.{after_op, after_ops, after_ops-append, ops_skip, each_works_here, each_works_skip}
 use Rattle.cb_plan_operations.proofs.VectorSteps.{yes, no, summed, pieces_come, pieces_skip, sum_made, sums_skip}
 use Rattle.cb_plan_operations.proofs.Mirror.{mirror_keeps, mirror_brings}
 
-module _ {M : Type 0} (ops : Algebra M) (q : ℕ) (few : q ≤ 6) where
+module _ {M : Type 0} (ops : Algebra M) (q : ℕ) (few : q ≤ LARGEST_SIDE) where
   -- ---- one rank
   cuts_make : (rows : ℕ × ℕ) (width a m t : ℕ) (slots : ℕ → Option M) → t < q → a ≤ t → t < a + m →
-      after_ops ops (map (own_cut rows width) (range_with_len a m)) slots (30 + t) ≡ one (ops.cut rows (0, width)) (slots (10 + t))
+      after_ops ops (map (own_cut rows width) (range_with_len a m)) slots (150 + t) ≡ one (ops.cut rows (0, width)) (slots (10 + t))
   cuts_make rows width a zero t slots few_t l h = absurd (omega arith)
   cuts_make rows width a (suc m) t slots few_t l h =
       let next : ℕ → Option M = after_op ops (own_cut rows width a) slots in
       split (a == t)
       (λ u.
       let e : a ≡ t = grind (arith, nat_tests) in
-      ops_skip ops (own_cut rows width) (30 + t) (a + 1) m next (λ k b. let ne : 30 + k ≢ 30 + t = omega arith in ne)
-      ∙ subst (λ x. next (30 + x) ≡ one (ops.cut rows (0, width)) (slots (10 + x))) e (rw (yes (30 + a)) refl))
+      ops_skip ops (own_cut rows width) (150 + t) (a + 1) m next (λ k b. let ne : 150 + k ≢ 150 + t = omega arith in ne)
+      ∙ subst (λ x. next (150 + x) ≡ one (ops.cut rows (0, width)) (slots (10 + x))) e (rw (yes (150 + a)) refl))
       (λ u.
-      let kept : next (10 + t) ≡ slots (10 + t) = rw (no (30 + a) (10 + t) (let ne : 30 + a ≢ 10 + t = omega arith in ne)) refl in
+      let kept : next (10 + t) ≡ slots (10 + t) = rw (no (150 + a) (10 + t) (let ne : 150 + a ≢ 10 + t = omega arith in ne)) refl in
       cuts_make rows width (a + 1) m t next few_t (grind (arith, nat_tests)) (omega arith) ∙ ap (one (ops.cut rows (0, width))) kept)
 
-  -- slots from 30 on have its rows of what came
-  pub own_rows : (rows : ℕ × ℕ) (width t : ℕ) (slots : ℕ → Option M) → t < q → after_ops ops (own_cuts q rows width) slots (30 + t) ≡ one (ops.cut rows (0, width)) (slots (10 + t))
+  -- slots from 150 on have its rows of what came
+  pub own_rows : (rows : ℕ × ℕ) (width t : ℕ) (slots : ℕ → Option M) → t < q → after_ops ops (own_cuts q rows width) slots (150 + t) ≡ one (ops.cut rows (0, width)) (slots (10 + t))
   own_rows rows width t slots l = cuts_make rows width 0 q t slots l (omega arith) (omega arith)
 
   -- slot 2 has their sum
@@ -53,7 +53,7 @@ module _ {M : Type 0} (ops : Algebra M) (q : ℕ) (few : q ≤ 6) where
   own_keeps rows width slots =
       ap (λ s. s 0) (after_ops-append ops (own_cuts q rows width) (sum_ops q) slots)
       ∙ sums_skip ops q (after_ops ops (own_cuts q rows width) slots) 0 (omega arith)
-      ∙ ops_skip ops (own_cut rows width) 0 0 q slots (λ k _. let ne : 30 + k ≢ 0 = omega arith in ne)
+      ∙ ops_skip ops (own_cut rows width) 0 0 q slots (λ k _. let ne : 150 + k ≢ 0 = omega arith in ne)
 
   -- ---- all ranks
   module _ (shape : Extent) (state : State M) where

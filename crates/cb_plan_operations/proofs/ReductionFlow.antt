@@ -1,5 +1,5 @@
 -- The acts of the sums of columns, and of rows, pass the check.
-use Rattle.std.proofs.Common.{◌≡◌, ◌≢◌, ℕ, zero, suc, ◌+◌, ◌-◌, ◌*◌, ◌/◌, ◌%◌, ◌<◌, ◌≤◌, true, List, [], ◌∷◌, ◌++◌, map, refl, sym, ap, subst, ◌∙◌, arith}
+use Rattle.std.proofs.Common.{◌≡◌, ◌≢◌, ℕ, zero, suc, ◌+◌, ◌*◌, ◌/◌, ◌%◌, ◌<◌, ◌≤◌, true, List, [], ◌∷◌, ◌++◌, map, refl, sym, ap, subst, ◌∙◌, arith}
 use Rattle.std.specs.Prelude.{Option, Some, is_some, nat_lt, nat_le}
 use Rattle.std.specs.List.{range_with_len}
 use Rattle.std.proofs.lemmas.Bool.Decides.{nat_tests}
@@ -11,7 +11,8 @@ use Rattle.cb_plan.specs.declared.acts.Act.{Act}
 use Rattle.cb_plan.specs.Meaning.{State, meaning, one}
 use Rattle.cb_plan.specs.Algebras.{shapes}
 use Rattle.cb_plan.specs.Checks.{started, none_shut}
-use Rattle.cb_grid.specs.Parts.{part, part_start, part_length, part_shape}
+use Rattle.cb_grid.specs.declared.TheConstants.{LARGEST_SIDE}
+use Rattle.cb_grid.specs.Parts.{part, part_length, part_shape}
 use Rattle.cb_grid.proofs.Parts.{rank_of, row_below, rank_below}
 use Rattle.cb_plan_parts.specs.PlanParts.{each_rank, operand_starts}
 use Rattle.cb_plan_parts.specs.Flows.{Flows}
@@ -33,7 +34,7 @@ abbrev row : ℕ → Extent
 row width = record { rows = 1; cols = width }
 
 -- ---- what one rank does
-module _ (q rank : ℕ) (few : q ≤ 6) (exists : rank < q * q) (rows : ℕ × ℕ) (width : ℕ) (rises : rows.0 ≤ rows.1) (inside : rows.1 ≤ 1) where
+module _ (q rank : ℕ) (few : q ≤ LARGEST_SIDE) (exists : rank < q * q) (rows : ℕ × ℕ) (width : ℕ) (rises : rows.0 ≤ rows.1) (inside : rows.1 ≤ 1) where
   can_cut : (a m : ℕ) (slots : ℕ → Option Extent) → a + m ≤ q → ((t : ℕ) → t < q → slots (10 + t) ≡ Some (row width)) → CanDo (q * q) rank slots (map (own_cut rows width) (range_with_len a m))
   can_cut a zero slots l has = tt
   can_cut a (suc m) slots l has =
@@ -42,10 +43,10 @@ module _ (q rank : ℕ) (few : q ≤ 6) (exists : rank < q * q) (rows : ℕ × �
       let fits : nat_le rows.1 1 ≡ true = grind (arith, nat_tests) in
       let from : nat_le 0 width ≡ true = grind (arith, nat_tests) in
       let wide : nat_le width width ≡ true = grind (arith, nat_tests) in
-      let exist : nat_lt (30 + a) 256 ≡ true = below (30 + a) (omega arith) in
+      let exist : nat_lt (150 + a) 256 ≡ true = below (150 + a) (omega arith) in
       let exist_from : nat_lt (10 + a) 256 ≡ true = below (10 + a) (omega arith) in
       let next : ℕ → Option Extent = after_op shapes (own_cut rows width a) slots in
-      let kept : (t : ℕ) → t < q → next (10 + t) ≡ slots (10 + t) = λ t b. rw (no (30 + a) (10 + t) (let ne : 30 + a ≢ 10 + t = omega arith in ne)) refl in (
+      let kept : (t : ℕ) → t < q → next (10 + t) ≡ slots (10 + t) = λ t b. rw (no (150 + a) (10 + t) (let ne : 150 + a ≢ 10 + t = omega arith in ne)) refl in (
         record { exists = exists; slots_exist = rw (exist, exist_from) refl; filled = rw here refl; agree = rw (here, up, fits, from, wide) refl },
         can_cut (a + 1) m next (omega arith) (λ t b. kept t b ∙ has t b),
       )
@@ -59,7 +60,7 @@ module _ (q rank : ℕ) (few : q ≤ 6) (exists : rank < q * q) (rows : ℕ × �
       (λ t b. own_rows shapes q few rows width t slots b ∙ rw (has t b) refl))
 
 -- ---- what all ranks do
-module _ (q : ℕ) (pos : 0 < q) (few : q ≤ 6) where
+module _ (q : ℕ) (pos : 0 < q) (few : q ≤ LARGEST_SIDE) where
   abbrev Flow : State Extent → List Act → Type 0
   Flow state acts = Flows (q * q) none_shut state acts
 

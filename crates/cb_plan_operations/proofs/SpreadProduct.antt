@@ -7,6 +7,7 @@ use Rattle.cb_matrix.specs.Operations.{cut}
 use Rattle.cb_plan.specs.Meaning.{Algebra, State, meaning, one}
 use Rattle.cb_plan.specs.Algebras.{matrices}
 use Rattle.cb_plan.proofs.Effects.{meaning-append}
+use Rattle.cb_grid.specs.declared.TheConstants.{LARGEST_SIDE}
 use Rattle.cb_grid.specs.Parts.{part, part_length}
 use Rattle.cb_grid.specs.Blocks.{block_of}
 use Rattle.cb_grid.specs.Pieces.{piece_of}
@@ -20,7 +21,7 @@ use Rattle.cb_plan_operations.proofs.VectorSteps.{assembled, summed, pieces_come
 use Rattle.cb_plan_operations.proofs.Assembly.{vector_part, part_assembled, pieces_make_product}
 
 -- the slots after each step
-module _ {M : Type 0} (ops : Algebra M) (q : ℕ) (few : q ≤ 6) (shape : Extent) (state : State M) where
+module _ {M : Type 0} (ops : Algebra M) (q : ℕ) (few : q ≤ LARGEST_SIDE) (shape : Extent) (state : State M) where
   -- once each rank has the pieces of the part of the vector that its column needs
   abbrev pub after_pieces : State M
   after_pieces = meaning ops (piece_broadcasts q) state
@@ -84,16 +85,16 @@ module _ {M : Type 0} (ops : Algebra M) (q : ℕ) (few : q ≤ 6) (shape : Exten
         ∙ at_place (λ _ y. after_ops ops (product_ops q (column (part_length q shape.cols y))) (after_pieces (i * q + j)) 5) q i j m
         ∙ product_made ops q (column (part_length q shape.cols j)) (piece j) (block i j) (after_pieces (i * q + j)) (has_left i j l m) (λ t h. has_pieces i j t l m h)
 
-    -- slots from 20 on have the pieces of that product
-    pub has_cuts : (i j t : ℕ) → i < q → j < q → t < q → after_cuts (i * q + j) (20 + t) ≡ Some (product_piece i t j)
+    -- slots from 80 on have the pieces of that product
+    pub has_cuts : (i j t : ℕ) → i < q → j < q → t < q → after_cuts (i * q + j) (80 + t) ≡ Some (product_piece i t j)
     has_cuts i j t l m h =
-        ap (λ slots. slots (20 + t)) (each_works_here ops q (cuts_at q shape) after_products (i * q + j) (rank_below q i j l m))
-        ∙ at_place (λ y _. after_ops ops (cut_ops q (part_length q shape.rows y)) (after_products (i * q + j)) (20 + t)) q i j m
+        ap (λ slots. slots (80 + t)) (each_works_here ops q (cuts_at q shape) after_products (i * q + j) (rank_below q i j l m))
+        ∙ at_place (λ y _. after_ops ops (cut_ops q (part_length q shape.rows y)) (after_products (i * q + j)) (80 + t)) q i j m
         ∙ pieces_cut ops q (part_length q shape.rows i) t (after_products (i * q + j)) h
         ∙ ap (one (ops.cut (part q (part_length q shape.rows i) t) (0, 1))) (has_product i j l m)
 
-    -- slots from 30 on have the rank's own piece of each product of its row
-    pub has_summands : (i t j : ℕ) → i < q → t < q → j < q → after_exchanges (i * q + t) (30 + j) ≡ Some (product_piece i t j)
+    -- slots from 150 on have the rank's own piece of each product of its row
+    pub has_summands : (i t j : ℕ) → i < q → t < q → j < q → after_exchanges (i * q + t) (150 + j) ≡ Some (product_piece i t j)
     has_summands i t j l h m = pieces_exchanged ops q few after_cuts i t j l h m ∙ has_cuts i j t l m h
 
     pub has_result : 0 < q → (i t : ℕ) → i < q → t < q → after_sums (i * q + t) 2 ≡ Some (summed ops (product_piece i t) (q - 1))
@@ -106,7 +107,7 @@ summed_same : {M : Type 0} (ops : Algebra M) (f g : ℕ → M) → ((k : ℕ) �
 summed_same ops f g same n = ap (λ h. summed ops h n) (λ i k. same k i)
 
 -- the acts leave the product
-pub is_vector_plan : (q : ℕ) → 0 < q → q ≤ 6 → (shape : Extent) → IsVectorPlan (vector_acts q shape) q shape
+pub is_vector_plan : (q : ℕ) → 0 < q → q ≤ LARGEST_SIDE → (shape : Extent) → IsVectorPlan (vector_acts q shape) q shape
 is_vector_plan q pos few shape s laws a x is_a is_x e f state left right =
     let ops = matrices s in
     let after = meaning ops (spread_product_acts q shape) state in

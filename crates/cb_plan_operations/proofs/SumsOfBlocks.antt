@@ -1,5 +1,5 @@
 -- The sums of the blocks of a matrix make the blocks of its sums, and so the plans make them.
-use Rattle.std.proofs.Common.{◌≡◌, ℕ, zero, suc, ◌+◌, ◌-◌, ◌*◌, ◌<◌, ◌≤◌, ◌++◌, map, refl, sym, ap, subst, ◌∙◌, arith}
+use Rattle.std.proofs.Common.{◌≡◌, ℕ, zero, suc, ◌+◌, ◌-◌, ◌*◌, ◌<◌, ◌≤◌, ◌++◌, map, sym, ap, ◌∙◌, arith}
 use Rattle.std.specs.Prelude.{Some}
 use Rattle.std.specs.List.{range_with_len}
 use Rattle.cb_semirings.specs.Arithmetic.{Arithmetic, IsValue, IsSemiring}
@@ -9,7 +9,8 @@ use Rattle.cb_matrix.specs.Operations.{cut, sum_of, transposed, column_sums, row
 use Rattle.cb_matrix.proofs.Made.{at-matrix_of, same_matrix_of, IsMatrix-matrix_of}
 use Rattle.cb_matrix.proofs.Totals.{value_at-value}
 use Rattle.cb_matrix.proofs.Split.{total_parts}
-use Rattle.cb_grid.specs.Parts.{part, part_start, part_length, part_shape}
+use Rattle.cb_grid.specs.declared.TheConstants.{LARGEST_SIDE}
+use Rattle.cb_grid.specs.Parts.{part, part_start, part_length}
 use Rattle.cb_grid.specs.Blocks.{block_of}
 use Rattle.cb_plan.specs.Meaning.{State, meaning}
 use Rattle.cb_plan.specs.Algebras.{matrices}
@@ -20,11 +21,10 @@ use Rattle.cb_plan.specs.declared.acts.Op.TheVariants as op_is
 use Rattle.cb_plan_parts.proofs.Everywhere.{each_elsewhere}
 use Rattle.cb_plan_parts.specs.Collectives.{shut_acts}
 use Rattle.cb_plan_parts.proofs.ShutMeaning.{shut_nothing}
-use Rattle.cb_plan_operations.specs.GridPlans.{Leaves}
 use Rattle.cb_plan_operations.specs.ReductionPlans.{gathered_sums, column_sums_acts, turned_sums_acts, turn_back_acts, row_sums_acts, turned, IsColumnSumsPlan, IsRowSumsPlan}
 use Rattle.cb_plan_operations.proofs.ResultBlocks.{at-block, transposed_block}
 use Rattle.cb_plan_operations.proofs.VectorSteps.{summed}
-use Rattle.cb_plan_operations.proofs.GatheredSums.{sums_gathered, gathered_keeps, after_sums, has_sums, after_copies, has_copies, turned_means, copies_keep, turned_back, turn_back_keeps}
+use Rattle.cb_plan_operations.proofs.GatheredSums.{sums_gathered, gathered_keeps, has_sums, after_copies, has_copies, turned_means, copies_keep, turned_back, turn_back_keeps}
 
 -- block (i, j) of the sums of the columns
 module _ (s : Arithmetic) (laws : IsSemiring s) (q : ℕ) (pos : 0 < q) (a : Sparse) (is_a : IsMatrix s a) (i j : ℕ) where
@@ -114,7 +114,7 @@ module _ (s : Arithmetic) (laws : IsSemiring s) (q : ℕ) (pos : 0 < q) (a : Spa
       partial_sums (q - 1) ∙ ap partial e ∙ partial_all
 
 -- what the ranks have in slot 1 of a matrix, and what they make of it in slot 2
-module _ (s : Arithmetic) (laws : IsSemiring s) (q : ℕ) (pos : 0 < q) (few : q ≤ 6) where
+module _ (s : Arithmetic) (laws : IsSemiring s) (q : ℕ) (pos : 0 < q) (few : q ≤ LARGEST_SIDE) where
   gathered_parts : (a : Sparse) → IsMatrix s a → (state : State Sparse) → ((i j : ℕ) → i < q → j < q → state (i * q + j) 1 ≡ Some (column_sums s (block_of s q a i j))) →
       HasParts s q (column_sums s a) 2 (meaning (matrices s) (gathered_sums q a.shape) state)
   gathered_parts a is_a state has i j l m =
@@ -122,7 +122,7 @@ module _ (s : Arithmetic) (laws : IsSemiring s) (q : ℕ) (pos : 0 < q) (few : q
       ∙ ap Some (sums_make_block s laws q pos a is_a i j)
 
 -- the acts leave the sums of the columns
-pub is_column_sums_plan : (q : ℕ) → 0 < q → q ≤ 6 → (shape : Extent) → IsColumnSumsPlan (column_sums_acts q shape ++ shut_acts (q * q)) q shape
+pub is_column_sums_plan : (q : ℕ) → 0 < q → q ≤ LARGEST_SIDE → (shape : Extent) → IsColumnSumsPlan (column_sums_acts q shape ++ shut_acts (q * q)) q shape
 is_column_sums_plan q pos few shape s laws a is_a e state has =
     let ops = matrices s in
     let summed_blocks = each_rank q (λ _. op_is.ColumnSums 0 1) in
@@ -153,7 +153,7 @@ turned_sums s a =
     ∙ ap (total s) (map_below (λ k. at s other k i) (λ k. at s a i k) 0 n (λ k _ b. at-matrix_of s (record { rows = n; cols = m }) (λ i j. at s a j i) k i (omega arith) l)))
 
 -- the acts leave the sums of the rows
-pub is_row_sums_plan : (q : ℕ) → 0 < q → q ≤ 6 → (shape : Extent) → IsRowSumsPlan (row_sums_acts q shape ++ shut_acts (q * q)) q shape
+pub is_row_sums_plan : (q : ℕ) → 0 < q → q ≤ LARGEST_SIDE → (shape : Extent) → IsRowSumsPlan (row_sums_acts q shape ++ shut_acts (q * q)) q shape
 is_row_sums_plan q pos few shape s laws a is_a e state has =
     let ops = matrices s in
     let other = transposed s a in

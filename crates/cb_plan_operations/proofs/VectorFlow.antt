@@ -13,6 +13,7 @@ use Rattle.cb_plan.specs.Meaning.{State}
 use Rattle.cb_plan.specs.Algebras.{shapes}
 use Rattle.cb_plan.specs.Checks.{none_shut, lanes_after}
 use Rattle.cb_plan.proofs.PassingActs.{lanes_after-append}
+use Rattle.cb_grid.specs.declared.TheConstants.{LARGEST_SIDE}
 use Rattle.cb_grid.specs.Parts.{row_group, column_group, part, part_start, part_length, part_shape}
 use Rattle.cb_grid.specs.Pieces.{piece_shape}
 use Rattle.cb_grid.proofs.Parts.{rank_of, row_below}
@@ -24,7 +25,7 @@ use Rattle.cb_plan_parts.specs.Flows.{Flows}
 use Rattle.cb_plan_parts.proofs.Flows.{flows-append, flows_each}
 use Rattle.cb_plan_parts.proofs.Grid.{in_column, column_exists, column_distinct, row_exists}
 use Rattle.cb_plan_parts.proofs.PartStarts.{start_rises, start_within}
-use Rattle.cb_plan_operations.specs.VectorPlans.{column, each_works, piece_broadcast, part_broadcasts, piece_broadcasts, add_piece, product_ops, piece_cut, exchange, exchanges, next_summand, sum_ops, products_at, cuts_at, spread_product_acts}
+use Rattle.cb_plan_operations.specs.VectorPlans.{column, each_works, piece_broadcast, part_broadcasts, piece_broadcasts, add_piece, product_ops, piece_cut, exchange, exchanges, next_summand, sum_ops, products_at, cuts_at, spread_product_acts, exchange_tag}
 use Rattle.cb_plan_operations.proofs.RankPrograms.{after_op, after_ops, CanDo, can_do_both, each_works_flow, lists_skip}
 use Rattle.cb_plan_operations.proofs.VectorSteps.{yes, no, assembled, broadcast_skips, part_skips, pieces_add, adds_skip, exchange_skips}
 use Rattle.cb_plan_operations.proofs.SpreadProduct.{after_pieces, after_products, after_cuts, after_exchanges, has_left, has_pieces, has_product, has_cuts, has_summands}
@@ -39,7 +40,7 @@ assembled_shape q whole piece zero = refl
 assembled_shape q whole piece (suc k) = assembled_shape q whole piece k
 
 -- ---- what one rank does
-module _ (q rank : ℕ) (few : q ≤ 6) (exists : rank < q * q) where
+module _ (q rank : ℕ) (few : q ≤ LARGEST_SIDE) (exists : rank < q * q) where
   -- pieces that fit in their places are added
   can_add : (rows a m : ℕ) (slots : ℕ → Option Extent) → a + m ≤ q → slots 3 ≡ Some (column rows) → ((t : ℕ) → t < q → slots (10 + t) ≡ Some (column (part_length q rows t))) →
       CanDo (q * q) rank slots (flat_map (add_piece q (column rows)) (range_with_len a m))
@@ -86,37 +87,37 @@ module _ (q rank : ℕ) (few : q ≤ 6) (exists : rank < q * q) where
       let inside = start_within q rows (a + 1) in
       let rises : nat_le (part_start q rows a) (part_start q rows (a + 1)) ≡ true = grind (arith, nat_tests) in
       let fits : nat_le (part_start q rows (a + 1)) rows ≡ true = grind (arith, nat_tests) in
-      let exist : nat_lt (20 + a) 256 ≡ true = below (20 + a) (omega arith) in
+      let exist : nat_lt (80 + a) 256 ≡ true = below (80 + a) (omega arith) in
       let next : ℕ → Option Extent = after_op shapes (piece_cut q rows a) slots in
-      let kept : next 5 ≡ slots 5 = rw (no (20 + a) 5 (let ne : 20 + a ≢ 5 = omega arith in ne)) refl in (
+      let kept : next 5 ≡ slots 5 = rw (no (80 + a) 5 (let ne : 80 + a ≢ 5 = omega arith in ne)) refl in (
         record { exists = exists; slots_exist = rw exist refl; filled = rw has refl; agree = rw (has, rises, fits) refl },
         can_cut rows (a + 1) m next (omega arith) (kept ∙ has),
       )
 
   -- and adds up the pieces that it got
-  can_add_up : (d : Extent) (a m : ℕ) (slots : ℕ → Option Extent) → a + m ≤ q - 1 → slots 2 ≡ Some d → ((s : ℕ) → s < q → slots (30 + s) ≡ Some d) → CanDo (q * q) rank slots (map next_summand (range_with_len a m))
+  can_add_up : (d : Extent) (a m : ℕ) (slots : ℕ → Option Extent) → a + m ≤ q - 1 → slots 2 ≡ Some d → ((s : ℕ) → s < q → slots (150 + s) ≡ Some d) → CanDo (q * q) rank slots (map next_summand (range_with_len a m))
   can_add_up d a zero slots l so_far has = tt
   can_add_up d a (suc m) slots l so_far has =
-      let e : 31 + a ≡ 30 + suc a = omega arith in
-      let here : slots (31 + a) ≡ Some d = ap slots e ∙ has (suc a) (omega arith) in
-      let exist : nat_lt (31 + a) 256 ≡ true = below (31 + a) (omega arith) in
+      let e : 151 + a ≡ 150 + suc a = omega arith in
+      let here : slots (151 + a) ≡ Some d = ap slots e ∙ has (suc a) (omega arith) in
+      let exist : nat_lt (151 + a) 256 ≡ true = below (151 + a) (omega arith) in
       let next : ℕ → Option Extent = after_op shapes (next_summand a) slots in
       let is : next 2 ≡ Some d = rw (so_far, here) refl in
-      let kept : (s : ℕ) → next (30 + s) ≡ slots (30 + s) = λ s. rw (no 2 (30 + s) (let ne : 2 ≢ 30 + s = omega arith in ne)) refl in (
+      let kept : (s : ℕ) → next (150 + s) ≡ slots (150 + s) = λ s. rw (no 2 (150 + s) (let ne : 2 ≢ 150 + s = omega arith in ne)) refl in (
         record { exists = exists; slots_exist = rw exist refl; filled = rw (so_far, here) refl; agree = rw (so_far, here, yes d.rows, yes d.cols) refl },
         can_add_up d (a + 1) m next (omega arith) is (λ s h. kept s ∙ has s h),
       )
 
-  pub can_sum : (d : Extent) (slots : ℕ → Option Extent) → 0 < q → ((s : ℕ) → s < q → slots (30 + s) ≡ Some d) → CanDo (q * q) rank slots (sum_ops q)
+  pub can_sum : (d : Extent) (slots : ℕ → Option Extent) → 0 < q → ((s : ℕ) → s < q → slots (150 + s) ≡ Some d) → CanDo (q * q) rank slots (sum_ops q)
   can_sum d slots pos has =
-      let first : slots 30 ≡ Some d = has 0 pos in
-      let next : ℕ → Option Extent = after_op shapes (op_is.Copy 30 2) slots in (
+      let first : slots 150 ≡ Some d = has 0 pos in
+      let next : ℕ → Option Extent = after_op shapes (op_is.Copy 150 2) slots in (
         record { exists = exists; slots_exist = refl; filled = rw first refl; agree = refl },
-        can_add_up d 0 (q - 1) next (omega arith) first (λ s h. rw (no 2 (30 + s) (let ne : 2 ≢ 30 + s = omega arith in ne)) (has s h)),
+        can_add_up d 0 (q - 1) next (omega arith) first (λ s h. rw (no 2 (150 + s) (let ne : 2 ≢ 150 + s = omega arith in ne)) (has s h)),
       )
 
 -- ---- what all ranks do
-module _ (q : ℕ) (pos : 0 < q) (few : q ≤ 6) (shape : Extent) where
+module _ (q : ℕ) (pos : 0 < q) (few : q ≤ LARGEST_SIDE) (shape : Extent) where
   abbrev Flow : State Extent → List Act → Type 0
   Flow state acts = Flows (q * q) none_shut state acts
 
@@ -144,20 +145,20 @@ module _ (q : ℕ) (pos : 0 < q) (few : q ≤ 6) (shape : Extent) where
         (λ j st m own. (part_flow j m st own, λ u k h b. part_skips shapes q j st m (u * q + k) 1 (inl (omega arith)) ∙ own u k h b))
         0 q state (omega arith) has
 
-  -- the slots from 20 on that are sent are filled
+  -- the slots from 80 on that are sent are filled
   abbrev HasCuts : State Extent → Type 0
-  HasCuts state = (i t p : ℕ) → i < q → t < q → p < q → is_some (state (i * q + t) (20 + p)) ≡ true
+  HasCuts state = (i t p : ℕ) → i < q → t < q → p < q → is_some (state (i * q + t) (80 + p)) ≡ true
 
   row_length : (i : ℕ) → length (row_group q i) ≡ q
   row_length i = length-map-range_with_len (λ j. i * q + j) 0 q
 
-  exchange_lanes : (i a n : ℕ) → lanes_after (flat_map (λ s. sent_from (row_group q i) (tagged 6) 20 (30 + s) s) (range_with_len a n)) none_shut ≡ none_shut
+  exchange_lanes : (i a n : ℕ) → lanes_after (flat_map (λ s. sent_from (row_group q i) exchange_tag 80 (150 + s) s) (range_with_len a n)) none_shut ≡ none_shut
   exchange_lanes i a zero = refl
   exchange_lanes i a (suc n) =
       let members = row_group q i in
-      lanes_after-append (sent_from members (tagged 6) 20 (30 + a) a) (flat_map (λ s. sent_from members (tagged 6) 20 (30 + s) s) (range_with_len (a + 1) n)) none_shut
-      ∙ ap (lanes_after (flat_map (λ s. sent_from members (tagged 6) 20 (30 + s) s) (range_with_len (a + 1) n)))
-      (sends_keep_lanes (q * q) (tagged 6) none_shut (λ s t. refl) (λ _. member members a) (member members) (λ k. 20 + k) (λ _. 30 + a) 0 (λ k l. absurd (omega arith)) 0 (length members))
+      lanes_after-append (sent_from members exchange_tag 80 (150 + a) a) (flat_map (λ s. sent_from members exchange_tag 80 (150 + s) s) (range_with_len (a + 1) n)) none_shut
+      ∙ ap (lanes_after (flat_map (λ s. sent_from members exchange_tag 80 (150 + s) s) (range_with_len (a + 1) n)))
+      (sends_keep_lanes (q * q) exchange_tag none_shut (λ s t. refl) (λ _. member members a) (member members) (λ k. 80 + k) (λ _. 150 + a) 0 (λ k l. absurd (omega arith)) 0 (length members))
       ∙ exchange_lanes i (a + 1) n
 
   exchange_flow : (i : ℕ) → i < q → (state : State Extent) → HasCuts state → Flow state (exchange q i)
@@ -166,15 +167,15 @@ module _ (q : ℕ) (pos : 0 < q) (few : q ≤ 6) (shape : Extent) where
       let count = row_length i in
       let there : (p : ℕ) → p < q → member members p ≡ i * q + p = λ p b. get_or-map-range_with_len (λ j. i * q + j) 0 q p p 0 b (omega arith) in
       record {
-        passes = all_to_all_passes (q * q) members (tagged 6) 20 30 none_shut (λ s t. refl) (row_exists q i m) (omega arith) (omega arith) state
-            (λ p k l h. subst (λ r. is_some (state r (20 + k)) ≡ true) (sym (there p (omega arith))) (has i p k m (omega arith) (omega arith)));
+        passes = all_to_all_passes (q * q) members exchange_tag 80 150 none_shut (λ s t. refl) (row_exists q i m) (omega arith) (omega arith) state
+            (λ p k l h. subst (λ r. is_some (state r (80 + k)) ≡ true) (sym (there p (omega arith))) (has i p k m (omega arith) (omega arith)));
         lanes = exchange_lanes i 0 (length members);
       }
 
   exchanges_flow : (state : State Extent) → HasCuts state → Flow state (exchanges q)
   exchanges_flow state has =
       flows_each (q * q) none_shut (exchange q) (λ _ st. HasCuts st) q
-      (λ i st m own. (exchange_flow i m st own, λ u k p h b l. ap (λ x. is_some x) (exchange_skips shapes q few i st m (u * q + k) (20 + p) (omega arith)) ∙ own u k p h b l))
+      (λ i st m own. (exchange_flow i m st own, λ u k p h b l. ap (λ x. is_some x) (exchange_skips shapes q few i st m (u * q + k) (80 + p) (omega arith)) ∙ own u k p h b l))
       0 q state (omega arith) has
 
   module _ (state : State Extent) (left : (i j : ℕ) → i < q → j < q → state (i * q + j) 0 ≡ Some (part_shape q shape i j)) (right : HasPiece (piece_shape q (column shape.cols)) state) where
@@ -226,7 +227,7 @@ module _ (q : ℕ) (pos : 0 < q) (few : q ≤ 6) (shape : Extent) where
         let t = r % q in
         let width = part_length q (part_length q shape.rows i) t in
         can_sum q r few l (column width) (fifth r) pos
-        (λ s k. subst (λ n. fifth n (30 + s) ≡ Some (column width)) (rank_of q r)
+        (λ s k. subst (λ n. fifth n (150 + s) ≡ Some (column width)) (rank_of q r)
         (has_summands shapes q few shape state block piece left right i t s (row_below q r l) (mod_below r q pos) k
         ∙ ap (λ (x : Extent). Some (shapes.cut (part q (part_length q shape.rows i) t) (0, 1) (shapes.mul_vec (block i s) x))) (assembled_shape q (column (part_length q shape.cols s)) (piece s) q))))
 

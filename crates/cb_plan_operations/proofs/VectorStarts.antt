@@ -9,6 +9,7 @@ use Rattle.cb_plan.specs.declared.acts.Start.{Start}
 use Rattle.cb_plan.specs.Meaning.{State}
 use Rattle.cb_plan.specs.Checks.{none_shut, started, started_from}
 use Rattle.cb_plan.specs.Plans.{IsElsewhere}
+use Rattle.cb_grid.specs.declared.TheConstants.{LARGEST_SIDE}
 use Rattle.cb_grid.specs.Parts.{part_shape}
 use Rattle.cb_grid.specs.Pieces.{piece_shape}
 use Rattle.cb_grid.proofs.Parts.{rank_below}
@@ -68,5 +69,5 @@ module _ (q : ℕ) (shape : Extent) where
       (AllPairs-cons IsElsewhere second [] (All-nil (IsElsewhere second)) (AllPairs-nil IsElsewhere))) 0 (q * q)
 
   -- from them the acts pass the check
-  pub vector_flow : 0 < q → q ≤ 6 → Flows (q * q) none_shut (started (vector_starts q shape)) (spread_product_acts q shape)
+  pub vector_flow : 0 < q → q ≤ LARGEST_SIDE → Flows (q * q) none_shut (started (vector_starts q shape)) (spread_product_acts q shape)
   vector_flow pos few = spread_flow q pos few shape (started (vector_starts q shape)) has_part has_piece

@@ -9,6 +9,7 @@ use Rattle.cb_plan.specs.declared.acts.Op.{Op}
 use Rattle.cb_plan.specs.declared.acts.Op.TheVariants as op_is
 use Rattle.cb_plan.specs.Meaning.{Algebra, State, meaning, one, two}
 use Rattle.cb_plan.proofs.Effects.{split}
+use Rattle.cb_grid.specs.declared.TheConstants.{LARGEST_SIDE}
 use Rattle.cb_grid.specs.Parts.{row_group, column_group, part, part_start}
 use Rattle.cb_plan_parts.specs.Collectives.{is_member, member, place_of, exchanged}
 use Rattle.cb_plan_parts.proofs.MemberPlaces.{place_of-member}
@@ -16,7 +17,7 @@ use Rattle.cb_plan_parts.proofs.Spread.{broadcast_spreads}
 use Rattle.cb_plan_parts.proofs.SendMeaning.{all_to_all_exchanges}
 use Rattle.cb_plan_parts.specs.PlanParts.{tagged}
 use Rattle.cb_plan_parts.proofs.Grid.{in_row, in_column, row_distinct}
-use Rattle.cb_plan_operations.specs.VectorPlans.{piece_broadcast, part_broadcasts, piece_broadcasts, add_piece, product_ops, piece_cut, cut_ops, exchange, exchanges, next_summand, sum_ops}
+use Rattle.cb_plan_operations.specs.VectorPlans.{piece_broadcast, part_broadcasts, piece_broadcasts, add_piece, product_ops, piece_cut, cut_ops, exchange, exchanges, next_summand, sum_ops, exchange_tag}
 use Rattle.cb_plan_operations.proofs.RankPrograms.{each_skips, each_sets, after_op, after_ops, after_ops-append, lists_skip, ops_skip}
 
 -- the pieces before number k, each in its place of the whole
@@ -132,33 +133,33 @@ module _ {M : Type 0} (ops : Algebra M) (q : ℕ) where
       ∙ begin
 
   -- ---- each rank cuts its product
-  cuts_make : (rows a m t : ℕ) (slots : ℕ → Option M) → a ≤ t → t < a + m → after_ops ops (map (piece_cut q rows) (range_with_len a m)) slots (20 + t) ≡ one (ops.cut (part q rows t) (0, 1)) (slots 5)
+  cuts_make : (rows a m t : ℕ) (slots : ℕ → Option M) → a ≤ t → t < a + m → after_ops ops (map (piece_cut q rows) (range_with_len a m)) slots (80 + t) ≡ one (ops.cut (part q rows t) (0, 1)) (slots 5)
   cuts_make rows a zero t slots l h = absurd (omega arith)
   cuts_make rows a (suc m) t slots l h =
       let next : ℕ → Option M = after_op ops (piece_cut q rows a) slots in
       split (a == t)
       (λ u.
       let e : a ≡ t = grind (arith, nat_tests) in
-      ops_skip ops (piece_cut q rows) (20 + t) (a + 1) m next (λ k b. let ne : 20 + k ≢ 20 + t = omega arith in ne)
-      ∙ subst (λ x. next (20 + x) ≡ one (ops.cut (part q rows x) (0, 1)) (slots 5)) e (rw (yes (20 + a)) refl))
+      ops_skip ops (piece_cut q rows) (80 + t) (a + 1) m next (λ k b. let ne : 80 + k ≢ 80 + t = omega arith in ne)
+      ∙ subst (λ x. next (80 + x) ≡ one (ops.cut (part q rows x) (0, 1)) (slots 5)) e (rw (yes (80 + a)) refl))
       (λ u.
-      let kept : next 5 ≡ slots 5 = rw (no (20 + a) 5 (let ne : 20 + a ≢ 5 = omega arith in ne)) refl in
+      let kept : next 5 ≡ slots 5 = rw (no (80 + a) 5 (let ne : 80 + a ≢ 5 = omega arith in ne)) refl in
       cuts_make rows (a + 1) m t next (grind (arith, nat_tests)) (omega arith) ∙ ap (one (ops.cut (part q rows t) (0, 1))) kept)
 
-  -- slot 20 + t has piece t of what is in slot 5
-  pub pieces_cut : (rows t : ℕ) (slots : ℕ → Option M) → t < q → after_ops ops (cut_ops q rows) slots (20 + t) ≡ one (ops.cut (part q rows t) (0, 1)) (slots 5)
+  -- slot 80 + t has piece t of what is in slot 5
+  pub pieces_cut : (rows t : ℕ) (slots : ℕ → Option M) → t < q → after_ops ops (cut_ops q rows) slots (80 + t) ≡ one (ops.cut (part q rows t) (0, 1)) (slots 5)
   pieces_cut rows t slots l = cuts_make rows 0 q t slots (omega arith) (omega arith)
 
-  -- slots below 20 stay
-  pub cuts_skip : (rows : ℕ) (slots : ℕ → Option M) (x : ℕ) → x < 20 → after_ops ops (cut_ops q rows) slots x ≡ slots x
-  cuts_skip rows slots x l = ops_skip ops (piece_cut q rows) x 0 q slots (λ k _. let ne : 20 + k ≢ x = omega arith in ne)
+  -- slots below 80 stay
+  pub cuts_skip : (rows : ℕ) (slots : ℕ → Option M) (x : ℕ) → x < 80 → after_ops ops (cut_ops q rows) slots x ≡ slots x
+  cuts_skip rows slots x l = ops_skip ops (piece_cut q rows) x 0 q slots (λ k _. let ne : 80 + k ≢ x = omega arith in ne)
 
   -- ---- the pieces are exchanged
-  module _ (few : q ≤ 6) where
-    exchange_is : (g : ℕ) (state : State M) → g < q → meaning ops (exchange q g) state ≡ exchanged (row_group q g) 20 30 state
+  module _ (few : q ≤ LARGEST_SIDE) where
+    exchange_is : (g : ℕ) (state : State M) → g < q → meaning ops (exchange q g) state ≡ exchanged (row_group q g) 80 150 state
     exchange_is g state m =
         let e : length (row_group q g) ≡ q = length-map-range_with_len (λ j. g * q + j) 0 q in
-        all_to_all_exchanges ops (row_group q g) (tagged 6) 20 30 state (row_distinct q g m) (inl (omega arith))
+        all_to_all_exchanges ops (row_group q g) exchange_tag 80 150 state (row_distinct q g m) (inl (omega arith))
 
     -- a row's exchange changes that row alone
     exchange_elsewhere : (g : ℕ) (state : State M) → g < q → (i j x : ℕ) → j < q → g ≢ i → meaning ops (exchange q g) state (i * q + j) x ≡ state (i * q + j) x
@@ -166,57 +167,57 @@ module _ {M : Type 0} (ops : Algebra M) (q : ℕ) where
         let f : is_member (row_group q g) (i * q + j) ≡ false = in_row q i j g l ∙ no g i ne in
         ap (λ st. st (i * q + j) x) (exchange_is g state m) ∙ rw f refl
 
-    exchange_here : (i : ℕ) (state : State M) → i < q → (t s : ℕ) → t < q → s < q → meaning ops (exchange q i) state (i * q + t) (30 + s) ≡ state (i * q + s) (20 + t)
+    exchange_here : (i : ℕ) (state : State M) → i < q → (t s : ℕ) → t < q → s < q → meaning ops (exchange q i) state (i * q + t) (150 + s) ≡ state (i * q + s) (80 + t)
     exchange_here i state m t s l h =
         let e : length (row_group q i) ≡ q = length-map-range_with_len (λ j. i * q + j) 0 q in
         let u : is_member (row_group q i) (i * q + t) ≡ true = in_row q i t i l ∙ yes i in
-        let v : (nat_le 30 (30 + s) && nat_lt (30 + s) (30 + length (row_group q i))) ≡ true = grind (arith, nat_tests) in
+        let v : (nat_le 150 (150 + s) && nat_lt (150 + s) (150 + length (row_group q i))) ≡ true = grind (arith, nat_tests) in
         let there : (p : ℕ) → p < q → member (row_group q i) p ≡ i * q + p = λ p b. get_or-map-range_with_len (λ j. i * q + j) 0 q p p 0 b (omega arith) in
         let place : place_of (row_group q i) (i * q + t) ≡ t = ap (place_of (row_group q i)) (sym (there t l)) ∙ place_of-member (row_group q i) t (row_distinct q i m) (omega arith) in
-        let less : (30 + s) - 30 ≡ s = omega arith in
-        ap (λ st. st (i * q + t) (30 + s)) (exchange_is i state m)
-        ∙ rw (u, v, place, less) (ap (λ r. state r (20 + t)) (there s h))
+        let less : (150 + s) - 150 ≡ s = omega arith in
+        ap (λ st. st (i * q + t) (150 + s)) (exchange_is i state m)
+        ∙ rw (u, v, place, less) (ap (λ r. state r (80 + t)) (there s h))
 
     -- slots that it doesn't set
-    pub exchange_skips : (g : ℕ) (state : State M) → g < q → (r x : ℕ) → x < 30 → meaning ops (exchange q g) state r x ≡ state r x
+    pub exchange_skips : (g : ℕ) (state : State M) → g < q → (r x : ℕ) → x < 150 → meaning ops (exchange q g) state r x ≡ state r x
     exchange_skips g state m r x l =
-        let f : (nat_le 30 x && nat_lt x (30 + length (row_group q g))) ≡ false = grind (arith, nat_tests) in
+        let f : (nat_le 150 x && nat_lt x (150 + length (row_group q g))) ≡ false = grind (arith, nat_tests) in
         ap (λ st. st r x) (exchange_is g state m)
         ∙ split (is_member (row_group q g) r) (λ u. rw (u, f) refl) (λ u. rw u refl)
 
     -- after all of them each rank has its piece of each product of its row
-    pub pieces_exchanged : (state : State M) (i t s : ℕ) → i < q → t < q → s < q → meaning ops (exchanges q) state (i * q + t) (30 + s) ≡ state (i * q + s) (20 + t)
+    pub pieces_exchanged : (state : State M) (i t s : ℕ) → i < q → t < q → s < q → meaning ops (exchanges q) state (i * q + t) (150 + s) ≡ state (i * q + s) (80 + t)
     pieces_exchanged state i t s m l h =
-        each_sets ops (exchange q) (i * q + t) (30 + s) i (λ st. st (i * q + s) (20 + t)) 0 q state (omega arith) (omega arith)
+        each_sets ops (exchange q) (i * q + t) (150 + s) i (λ st. st (i * q + s) (80 + t)) 0 q state (omega arith) (omega arith)
         (λ st. exchange_here i st m t s l h)
-        (λ g _ k ne st. exchange_elsewhere g st (omega arith) i t (30 + s) l ne)
-        (λ g _ k ne st. exchange_elsewhere g st (omega arith) i s (20 + t) h ne)
+        (λ g _ k ne st. exchange_elsewhere g st (omega arith) i t (150 + s) l ne)
+        (λ g _ k ne st. exchange_elsewhere g st (omega arith) i s (80 + t) h ne)
 
-    -- slots below 30 stay
-    pub exchanges_skip : (state : State M) (r x : ℕ) → x < 30 → meaning ops (exchanges q) state r x ≡ state r x
+    -- slots below 150 stay
+    pub exchanges_skip : (state : State M) (r x : ℕ) → x < 150 → meaning ops (exchanges q) state r x ≡ state r x
     exchanges_skip state r x l = each_skips ops (exchange q) r x 0 q state (λ g _ k st. exchange_skips g st (omega arith) r x l)
 
   -- ---- the pieces are added up
-  summands_add : (block : ℕ → M) (a m b : ℕ) (slots : ℕ → Option M) → a + m ≡ b → slots 2 ≡ Some (summed ops block a) → ((s : ℕ) → s ≤ b → slots (30 + s) ≡ Some (block s)) →
+  summands_add : (block : ℕ → M) (a m b : ℕ) (slots : ℕ → Option M) → a + m ≡ b → slots 2 ≡ Some (summed ops block a) → ((s : ℕ) → s ≤ b → slots (150 + s) ≡ Some (block s)) →
       after_ops ops (map next_summand (range_with_len a m)) slots 2 ≡ Some (summed ops block b)
   summands_add block a zero b slots e so_far has = let f : a ≡ b = omega arith in so_far ∙ ap (λ k. Some (summed ops block k)) f
   summands_add block a (suc m) b slots e so_far has =
       let f : a + 1 ≡ suc a = omega arith in
-      let g : 31 + a ≡ 30 + suc a = omega arith in
+      let g : 151 + a ≡ 150 + suc a = omega arith in
       let next : ℕ → Option M = after_op ops (next_summand a) slots in
       let is : next 2 ≡ Some (summed ops block (a + 1)) =
-      ap (λ x. two ops.add x (slots (31 + a))) so_far
+      ap (λ x. two ops.add x (slots (151 + a))) so_far
       ∙ ap (λ k. two ops.add (Some (summed ops block a)) (slots k)) g
       ∙ ap (λ x. two ops.add (Some (summed ops block a)) x) (has (suc a) (omega arith))
       ∙ rw f refl in
-      summands_add block (a + 1) m b next (omega arith) is (λ s l. rw (no 2 (30 + s) (let ne : 2 ≢ 30 + s = omega arith in ne)) (has s l))
+      summands_add block (a + 1) m b next (omega arith) is (λ s l. rw (no 2 (150 + s) (let ne : 2 ≢ 150 + s = omega arith in ne)) (has s l))
 
-  -- slot 2 has the sum of the blocks from slot 30 on
-  pub sum_made : (block : ℕ → M) (slots : ℕ → Option M) → ((s : ℕ) → s ≤ q - 1 → slots (30 + s) ≡ Some (block s)) → after_ops ops (sum_ops q) slots 2 ≡ Some (summed ops block (q - 1))
+  -- slot 2 has the sum of the blocks from slot 150 on
+  pub sum_made : (block : ℕ → M) (slots : ℕ → Option M) → ((s : ℕ) → s ≤ q - 1 → slots (150 + s) ≡ Some (block s)) → after_ops ops (sum_ops q) slots 2 ≡ Some (summed ops block (q - 1))
   sum_made block slots has =
-      let next : ℕ → Option M = after_op ops (op_is.Copy 30 2) slots in
-      summands_add block 0 (q - 1) (q - 1) next (omega arith) (has 0 (omega arith)) (λ s l. rw (no 2 (30 + s) (let ne : 2 ≢ 30 + s = omega arith in ne)) (has s l))
+      let next : ℕ → Option M = after_op ops (op_is.Copy 150 2) slots in
+      summands_add block 0 (q - 1) (q - 1) next (omega arith) (has 0 (omega arith)) (λ s l. rw (no 2 (150 + s) (let ne : 2 ≢ 150 + s = omega arith in ne)) (has s l))
 
   -- other slots stay
   pub sums_skip : (slots : ℕ → Option M) (x : ℕ) → 2 ≢ x → after_ops ops (sum_ops q) slots x ≡ slots x
-  sums_skip slots x ne = ops_skip ops next_summand x 0 (q - 1) (after_op ops (op_is.Copy 30 2) slots) (λ k _. ne) ∙ rw (no 2 x ne) refl
+  sums_skip slots x ne = ops_skip ops next_summand x 0 (q - 1) (after_op ops (op_is.Copy 150 2) slots) (λ k _. ne) ∙ rw (no 2 x ne) refl

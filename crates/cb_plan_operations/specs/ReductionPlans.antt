@@ -1,5 +1,5 @@
 -- The plans of the sums of the columns, and of the rows, of a matrix.
-use Rattle.std.specs.Prelude.{◌≡◌, ℕ, ◌+◌, ◌*◌, ◌/◌, ◌%◌, List, [], ◌∷◌, ◌++◌, map}
+use Rattle.std.specs.Prelude.{◌≡◌, ℕ, ◌+◌, ◌/◌, ◌%◌, List, ◌++◌, map}
 use Rattle.std.specs.List.{range_with_len}
 use Rattle.cb_semirings.specs.Arithmetic.{Arithmetic, IsSemiring}
 use Rattle.cb_matrix.specs.Sparse.{Extent, Sparse, IsMatrix}
@@ -9,7 +9,6 @@ use Rattle.cb_plan.specs.declared.acts.Op.TheVariants as op_is
 use Rattle.cb_plan.specs.declared.acts.Act.{Act}
 use Rattle.cb_plan.specs.Meaning.{State}
 use Rattle.cb_grid.specs.Parts.{part, part_length}
-use Rattle.cb_plan_parts.specs.Collectives.{shut_acts}
 use Rattle.cb_plan_parts.specs.PlanParts.{each_rank, HasParts}
 use Rattle.cb_plan_operations.specs.GridPlans.{mirror_acts, Leaves}
 use Rattle.cb_plan_operations.specs.VectorPlans.{each_works, piece_broadcasts, sum_ops}
@@ -17,7 +16,7 @@ use Rattle.cb_plan_operations.specs.VectorPlans.{each_works, piece_broadcasts, s
 -- ---- the sums of each column of ranks
 -- a rank cuts its rows of the answer out of the sums that came from rank t of its column
 abbrev pub own_cut : ℕ × ℕ → ℕ → ℕ → Op
-own_cut rows width t = op_is.Cut (10 + t) rows (0, width) (30 + t)
+own_cut rows width t = op_is.Cut (10 + t) rows (0, width) (150 + t)
 
 abbrev pub own_cuts : ℕ → ℕ × ℕ → ℕ → List Op
 own_cuts q rows width = map (own_cut rows width) (range_with_len 0 q)

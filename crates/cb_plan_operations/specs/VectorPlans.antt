@@ -4,6 +4,7 @@ use Rattle.std.specs.List.{range_with_len}
 use Rattle.cb_semirings.specs.Arithmetic.{Arithmetic, IsSemiring}
 use Rattle.cb_matrix.specs.Sparse.{Extent, Sparse, IsMatrix}
 use Rattle.cb_matrix.specs.Values.{product}
+use Rattle.cb_letters.specs.declared.Tag.{Tag}
 use Rattle.cb_plan.specs.declared.acts.Op.{Op}
 use Rattle.cb_plan.specs.declared.acts.Op.TheVariants as op_is
 use Rattle.cb_plan.specs.declared.acts.Act.{Act}
@@ -11,6 +12,7 @@ use Rattle.cb_plan.specs.declared.acts.Act.TheVariants as act_is
 use Rattle.cb_plan.specs.declared.acts.Start.{Start}
 use Rattle.cb_plan.specs.Meaning.{State, meaning}
 use Rattle.cb_plan.specs.Algebras.{matrices}
+use Rattle.cb_grid.specs.declared.TheConstants.{LARGEST_SIDE}
 use Rattle.cb_grid.specs.Parts.{row_group, column_group, part, part_start, part_length}
 use Rattle.cb_grid.specs.Pieces.{piece_shape, piece_of}
 use Rattle.cb_plan_parts.specs.Collectives.{broadcast_acts, all_to_all_acts, shut_acts}
@@ -69,27 +71,31 @@ add_piece q whole t = op_is.Place (10 + t) whole (part_start q whole.rows t, 0) 
 abbrev pub product_ops : ℕ → Extent → List Op
 product_ops q whole = op_is.Zero 3 whole ∷ (flat_map (add_piece q whole) (range_with_len 0 q) ++ op_is.MulVec 0 3 5 ∷ [])
 
--- piece t of a product with this many rows goes to slot 20 + t
+-- piece t of a product with this many rows goes to slot 80 + t
 abbrev pub piece_cut : ℕ → ℕ → ℕ → Op
-piece_cut q rows t = op_is.Cut 5 (part q rows t) (0, 1) (20 + t)
+piece_cut q rows t = op_is.Cut 5 (part q rows t) (0, 1) (80 + t)
 
 abbrev pub cut_ops : ℕ → ℕ → List Op
 cut_ops q rows = map (piece_cut q rows) (range_with_len 0 q)
 
+-- the tag of the exchange, which isn't that of a piece of the vector
+abbrev pub exchange_tag : Tag
+exchange_tag = tagged LARGEST_SIDE
+
 -- in row i of ranks, each rank receives its piece of each product
 abbrev pub exchange : ℕ → ℕ → List Act
-exchange q i = all_to_all_acts (row_group q i) (tagged 6) 20 30
+exchange q i = all_to_all_acts (row_group q i) exchange_tag 80 150
 
 abbrev pub exchanges : ℕ → List Act
 exchanges q = flat_map (exchange q) (range_with_len 0 q)
 
 -- another of the received pieces is added to the first
 abbrev pub next_summand : ℕ → Op
-next_summand s = op_is.Add 2 (31 + s) 2
+next_summand s = op_is.Add 2 (151 + s) 2
 
 -- the received pieces are added up in slot 2
 abbrev pub sum_ops : ℕ → List Op
-sum_ops q = op_is.Copy 30 2 ∷ map next_summand (range_with_len 0 (q - 1))
+sum_ops q = op_is.Copy 150 2 ∷ map next_summand (range_with_len 0 (q - 1))
 
 -- a rank multiplies its block of a matrix of this shape
 abbrev pub products_at : ℕ → Extent → ℕ → List Op

@@ -16,7 +16,7 @@ ghost use Rattle.cb_plan_operations.specs.VectorPlans.{piece_broadcast, part_bro
 ghost use Rattle.cb_plan_operations.specs.VectorPlans.{piece_cut, cut_ops, cuts_at, exchange, exchanges, next_summand, sum_ops, spread_product_acts};
 
 use crate::{LEFT, RESULT, RIGHT};
-use cb_grid::Grid;
+use cb_grid::{Grid, LARGEST_SIDE};
 use cb_letters::Tag;
 use cb_matrix::Shape;
 use cb_plan::{Act, Op, Plan, PlanFault, Planned, Start};
@@ -32,14 +32,15 @@ const PLACED: u16 = 4;
 /// The slot of the product of a rank's block and its part of the vector.
 const PRODUCT: u16 = 5;
 
-/// The first of the slots in which a rank receives the pieces of its part.
+/// The first of the slots in which a rank receives the pieces of its part. From this and from each of the next two there are
+/// as many slots as the largest grid has rows.
 pub(crate) const PIECES: u16 = 10;
 
 /// The first of the slots for the pieces of a rank's product.
-const CUTS: u16 = 20;
+const CUTS: u16 = 80;
 
 /// The first of the slots in which a rank receives its summands.
-pub(crate) const SUMMANDS: u16 = 30;
+pub(crate) const SUMMANDS: u16 = 150;
 
 /// The plan of a matrix of this shape times a vector. The vector and the result are spread over all ranks: piece t of part
 /// j of the vector is in slot 1 of rank (t, j) before the first act, and piece t of part i of the result is in slot 2 of
@@ -258,7 +259,7 @@ fn exchange_pieces(plan: &mut Plan, alloc: Global, grid: &Grid) -> Result<(), Pl
 {
     for i in 0..grid.side() {
         let group = grid.row_group(alloc, i);
-        all_to_all(plan, group.as_slice(), Tag(6), CUTS, SUMMANDS)?;
+        all_to_all(plan, group.as_slice(), Tag(LARGEST_SIDE), CUTS, SUMMANDS)?;
     }
     Ok(())
 }

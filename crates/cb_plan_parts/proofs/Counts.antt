@@ -6,7 +6,8 @@ use Rattle.std.proofs.lemmas.Bool.Decides.{nat_tests}
 use Rattle.std.proofs.lemmas.List.FromFn.{length-map-range_with_len}
 use Rattle.cb_letters.specs.declared.Tag.{Tag}
 use Rattle.cb_plan.proofs.Effects.{split}
-use Rattle.cb_plan_parts.specs.Collectives.{is_member, place_of, turned, tree_move, tree_moves, copied_at, broadcast_acts, shut_lane, shut_from, shut_acts, member, AreDistinct, sent, gather_acts, sent_from, all_to_all_acts, added_from, reduce_acts}
+pub use Rattle.cb_plan.proofs.ShutCounts.{count_shut}
+use Rattle.cb_plan_parts.specs.Collectives.{is_member, place_of, turned, tree_move, tree_moves, copied_at, broadcast_acts, member, AreDistinct, sent, gather_acts, sent_from, all_to_all_acts, added_from, reduce_acts}
 use Rattle.cb_plan_parts.proofs.MemberPlaces.{place-below, turned_at-length, not_member, distinct_tail}
 
 -- a broadcast has a move to each member but the root, and a copy at the root if it is to another slot
@@ -19,32 +20,6 @@ count_broadcast members root tag slot into there =
     split (slot == into)
     (λ t. let y : length (copied_at root slot into) ≡ 0 = rw t refl in rw t (omega arith))
     (λ t. let y : length (copied_at root slot into) ≡ 1 = rw t refl in rw t (omega arith))
-
--- a rank shuts one lane for each rank of a range but itself
-shut_in : (from a n : ℕ) → length (flat_map (shut_lane from) (range_with_len a n)) ≡ (if nat_le a from && nat_lt from (a + n) then n - 1 else n)
-shut_in from a zero = grind (arith, nat_tests)
-shut_in from a (suc n) =
-    let h = shut_in from (a + 1) n in
-    let x = length-append (shut_lane from a) (flat_map (shut_lane from) (range_with_len (a + 1) n)) in
-    split (from == a)
-    (λ t. let e : from ≡ a = grind (arith, nat_tests) in let y : length (shut_lane from a) ≡ 0 = rw t refl in grind (arith, nat_tests))
-    (λ t. let y : length (shut_lane from a) ≡ 1 = rw t refl in grind (arith, nat_tests))
-
-pub count_shut_from : (ranks from : ℕ) → from < ranks → length (shut_from ranks from) ≡ ranks - 1
-count_shut_from ranks from l = let h = shut_in from 0 ranks in grind (arith, nat_tests)
-
-shut_up_to : (ranks a n : ℕ) → a + n ≤ ranks → length (flat_map (shut_from ranks) (range_with_len a n)) ≡ n * (ranks - 1)
-shut_up_to ranks a zero l = omega arith
-shut_up_to ranks a (suc n) l =
-    let h = shut_up_to ranks (a + 1) n (omega arith) in
-    let x = length-append (shut_from ranks a) (flat_map (shut_from ranks) (range_with_len (a + 1) n)) in
-    let y = count_shut_from ranks a (omega arith) in
-    let z : suc n * (ranks - 1) ≡ (ranks - 1) + n * (ranks - 1) = grind arith in
-    omega arith
-
--- each lane between two ranks is shut once
-pub count_shut : (ranks : ℕ) → length (shut_acts ranks) ≡ ranks * (ranks - 1)
-count_shut ranks = shut_up_to ranks 0 ranks (omega arith)
 
 -- each member sends once to the root
 pub count_gather : (members : List ℕ) (root : ℕ) (tag : Tag) (slot into : ℕ) → length (gather_acts members root tag slot into) ≡ length members

@@ -15,7 +15,7 @@ use Rattle.cb_plan.specs.Checks.{Lanes, IsSound, Passes, lanes_after, none_shut,
 use Rattle.cb_plan.proofs.PassingActs.{passes-append, lanes_after-append, passes_check}
 use Rattle.cb_grid.proofs.Parts.{rank_of, row_below}
 use Rattle.cb_plan_parts.specs.Collectives.{shut_acts}
-use Rattle.cb_plan_parts.proofs.ShutCheck.{shut_acts_pass, all_shut_after}
+use Rattle.cb_plan.proofs.ShutCheck.{shut_acts_pass, all_shut_after}
 use Rattle.cb_plan_parts.specs.PlanParts.{each_rank}
 use Rattle.cb_plan_parts.specs.Flows.{Flows}
 

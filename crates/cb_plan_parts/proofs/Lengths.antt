@@ -6,6 +6,7 @@ use Rattle.std.proofs.lemmas.List.FromFn.{length-map-range_with_len}
 use Rattle.std.proofs.lemmas.Nat.{mul-le}
 use Rattle.std.proofs.Math.Nat.{add-mul, one-mul}
 use Rattle.cb_letters.specs.declared.Tag.{Tag}
+use Rattle.cb_grid.specs.declared.TheConstants.{LARGEST_SIDE}
 use Rattle.cb_plan.specs.declared.acts.Op.{Op}
 use Rattle.cb_plan.specs.declared.acts.Act.{Act}
 use Rattle.cb_plan.specs.declared.acts.Act.TheVariants as act_is
@@ -36,15 +37,23 @@ broadcast_at_most members root tag slot into =
     let w : length (copied_at root slot into) ≤ 1 = split (slot == into) (λ t. rw t (omega arith)) (λ t. rw t (omega arith)) in
     omega arith
 
-module _ (q : ℕ) (few : q ≤ 6) where
-  -- a grid has at most 36 ranks
-  pub squared : q * q ≤ 36
-  squared = mul-le q q 6 6 few few
+-- the most ranks of a grid
+abbrev pub most_ranks : ℕ
+most_ranks = LARGEST_SIDE * LARGEST_SIDE
 
-  -- an operation at each rank takes at most this many acts
-  pub each_rank_at_most : (op : ℕ → Op) → length (each_rank q op) ≤ 36
+-- the most lanes between them
+abbrev pub most_lanes : ℕ
+most_lanes = most_ranks * (most_ranks - 1)
+
+module _ (q : ℕ) (few : q ≤ LARGEST_SIDE) where
+  -- a grid has at most this many ranks
+  pub squared : q * q ≤ most_ranks
+  squared = mul-le q q LARGEST_SIDE LARGEST_SIDE few few
+
+  -- an operation at each rank takes at most as many acts
+  pub each_rank_at_most : (op : ℕ → Op) → length (each_rank q op) ≤ most_ranks
   each_rank_at_most op = let x = length-map-range_with_len (λ r. act_is.Work r (op r)) 0 (q * q) in let y = squared in omega arith
 
-  -- there are at most 1260 lanes to shut
-  pub shut_at_most : length (shut_acts (q * q)) ≤ 1260
-  shut_at_most = let x = count_shut (q * q) in let y = mul-le (q * q) (q * q - 1) 36 35 squared (let s = squared in omega arith) in omega arith
+  -- there are at most this many lanes to shut
+  pub shut_at_most : length (shut_acts (q * q)) ≤ most_lanes
+  shut_at_most = let x = count_shut (q * q) in let y = mul-le (q * q) (q * q - 1) most_ranks (most_ranks - 1) squared (let s = squared in omega arith) in omega arith

@@ -1,22 +1,13 @@
 -- How a plan grows, and why acts are refused.
-use Rattle.std.specs.Prelude.{◌≡◌, ◌+◌, ◌<◌, ◌≤◌, ◌⊎◌, List, ◌++◌, length}
+use Rattle.std.specs.Prelude.{◌≡◌, ◌+◌, ◌≤◌, List, ◌++◌, length}
 use Rattle.cb_plan.specs.declared.acts.Act.{Act}
-use Rattle.cb_plan.specs.declared.plans.PlanFault.{PlanFault}
 use Rattle.cb_plan.specs.declared.plans.TheConstants.{MOST_ACTS}
 use Rattle.cb_plan.specs.Plans.{PlanView}
-pub use Rattle.cb_plan.specs.Plans.{too_long, no_memory}
+pub use Rattle.cb_plan.specs.Plans.{too_long, no_memory, IsTooLong, IsRefusal}
 
 -- with these acts added the plan isn't too long
 abbrev pub IsWithinLimit : PlanView → List Act → Type 0
 IsWithinLimit plan acts = length plan.acts + length acts ≤ MOST_ACTS
-
--- with these acts added the plan is too long
-abbrev pub IsTooLong : PlanView → List Act → Type 0
-IsTooLong plan acts = MOST_ACTS < length plan.acts + length acts
-
--- why acts are refused: the plan would be too long, or else memory was refused
-abbrev pub IsRefusal : PlanView → List Act → PlanFault → Type 0
-IsRefusal plan acts fault = (IsTooLong plan acts × (fault ≡ too_long plan)) ⊎ (fault ≡ no_memory)
 
 -- the plan has room for the acts
 pub record HasRoom (plan : PlanView) (acts : List Act) : Type 0 where

@@ -11,6 +11,7 @@ use Rattle.cb_plan.specs.declared.acts.Act.{Act}
 use Rattle.cb_plan.specs.declared.acts.Act.TheVariants as act_is
 use Rattle.cb_plan.specs.Algebras.{matrices}
 use Rattle.cb_plan.specs.Meaning.{Algebra, State, meaning, two}
+pub use Rattle.cb_plan.specs.Closings.{shut_lane, shut_from, shut_acts}
 
 abbrev pub is_member : List ℕ → ℕ → Bool
 is_member members r = list_any (λ m. m == r) members
@@ -81,17 +82,6 @@ sent_from members tag slot into s =
 abbrev pub all_to_all_acts : List ℕ → Tag → ℕ → ℕ → List Act
 all_to_all_acts members tag slot into =
     flat_map (λ s. sent_from members tag slot (into + s) s) (range_with_len 0 (length members))
-
--- the lane between two ranks is shut; a rank has none to itself
-abbrev pub shut_lane : ℕ → ℕ → List Act
-shut_lane from to = if from == to then [] else act_is.Shut from to ∷ []
-
--- the lanes from a rank to each other rank are shut
-abbrev pub shut_from : ℕ → ℕ → List Act
-shut_from ranks from = flat_map (shut_lane from) (range_with_len 0 ranks)
-
-abbrev pub shut_acts : ℕ → List Act
-shut_acts ranks = flat_map (shut_from ranks) (range_with_len 0 ranks)
 
 -- these acts change the slots in this way, over matrices with any operations
 abbrev pub Means : List Act → (State Sparse → State Sparse) → Type 0

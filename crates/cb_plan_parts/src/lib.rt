@@ -6,7 +6,8 @@
 //! ([`finish`]). Then it is a plan that can be run.
 //!
 //! A collective is the acts of all members of a list of ranks. Each call takes room for all of them before it appends the first,
-//! so a refused call leaves the plan as it was; its cost is proportional to the acts that it appends.
+//! so a refused call leaves the plan as it was; its cost is proportional to the acts that it appends. Shutting all lanes costs
+//! nothing: a plan stores no act for it.
 //!
 //! `specs/Collectives` lists the acts of each collective, and defines what they do to the slots of the ranks, over blocks of any
 //! kind. `specs/PlanParts` defines the starts and the work, `specs/Flows` says when acts pass the check. `proofs/Lib` lists the

@@ -7,6 +7,7 @@ use Rattle.cb_plan.specs.declared.acts.Act.{Act}
 use Rattle.cb_plan.specs.Meaning.{State, meaning}
 use Rattle.cb_plan.specs.Algebras.{shapes}
 use Rattle.cb_plan.specs.Checks.{none_shut, started}
+use Rattle.cb_grid.specs.declared.TheConstants.{LARGEST_SIDE}
 use Rattle.cb_grid.specs.Parts.{row_group, column_group, part_shape, part_length}
 use Rattle.cb_grid.proofs.Parts.{rank_below}
 use Rattle.cb_plan_parts.specs.PlanParts.{tagged, zero_op, each_rank, operand_starts}
@@ -25,7 +26,7 @@ stages_keep_shape : (left right : ℕ → Extent) (first : Extent) (k : ℕ) →
 stages_keep_shape left right first zero = refl
 stages_keep_shape left right first (suc k) = stages_keep_shape left right first k
 
-module _ (q : ℕ) (pos : 0 < q) (few : q ≤ 6) (a b : Extent) (agree : a.cols ≡ b.rows) where
+module _ (q : ℕ) (pos : 0 < q) (few : q ≤ LARGEST_SIDE) (a b : Extent) (agree : a.cols ≡ b.rows) where
   abbrev left : ℕ → ℕ → Extent
   left = part_shape q a
 

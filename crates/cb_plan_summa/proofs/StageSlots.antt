@@ -2,6 +2,8 @@
 use Rattle.std.proofs.Common.{◌≡◌, ◌≢◌, ℕ, ◌<◌, ◌≤◌, true, arith}
 use Rattle.std.specs.Prelude.{nat_lt}
 use Rattle.std.proofs.lemmas.Bool.Decides.{nat_tests}
+use Rattle.cb_grid.specs.declared.TheConstants.{LARGEST_SIDE}
+use Rattle.cb_plan.specs.declared.stores.TheConstants.{SLOTS}
 use Rattle.cb_plan.proofs.Effects.{split}
 use Rattle.cb_plan_summa.specs.Summa.{left_slot, right_slot}
 
@@ -24,5 +26,5 @@ after_earlier m k l =
     (λ f. split (nat_lt m 2) (λ t. let n : 2 ≤ k = grind (arith, nat_tests) in rw (f, t) (omega arith)) (λ g. rw (f, g) (omega arith)))
 
 -- on the largest grid too they exist
-pub slots_exist : (k : ℕ) → k < 6 → right_slot k < 256
+pub slots_exist : (k : ℕ) → k < LARGEST_SIDE → right_slot k < SLOTS
 slots_exist k l = split (nat_lt k 2) (λ t. rw t (omega arith)) (λ f. rw f (omega arith))

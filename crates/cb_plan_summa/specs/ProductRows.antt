@@ -13,12 +13,16 @@ use Rattle.cb_plan_summa.specs.Summa.{left_slot, right_slot, summa_acts, summa_m
 abbrev two_by_two : Extent
 two_by_two = record { rows = 2; cols = 2 }
 
--- the slots of the stages on the largest grid: none is another's, and none is the mask's slot 7
+-- the slots of the first stages: none is another's, and none is the mask's slot 7
 left_slots : map left_slot (range_with_len 0 6) ≡ 3 ∷ 5 ∷ 8 ∷ 10 ∷ 12 ∷ 14 ∷ []
 left_slots = refl
 
 right_slots : map right_slot (range_with_len 0 6) ≡ 4 ∷ 6 ∷ 9 ∷ 11 ∷ 13 ∷ 15 ∷ []
 right_slots = refl
+
+-- those of the last stage on the largest grid
+last_slots : (left_slot 63 ≡ 130) × (right_slot 63 ≡ 131)
+last_slots = (refl, refl)
 
 -- how many acts there are on a grid of a side
 abbrev acts_on : ℕ → ℕ

@@ -9,8 +9,8 @@
 //!
 //! On a grid of side q each rank gets 2(q-1) blocks, and keeps 2q + 3 in the end, one more with a mask, whatever the
 //! matrices are: its own of the two matrices and of the product, and a pair per stage. Those of the stages share the
-//! memory of the operands' blocks if these are lent. A plan for the largest grid has 1,944 acts, 1,980 with a mask,
-//! far below a plan's limit.
+//! memory of the operands' blocks if these are lent. A plan for the largest grid has 17,563,648 acts,
+//! 17,567,744 with a mask, far below a plan's limit.
 //!
 //! SUMMA is by van de Geijn and Watts (Concurrency: Practice and Experience, 1997); over sparse blocks it is in
 //! Buluç and Gilbert, Parallel sparse matrix-matrix multiplication and indexing (SIAM Journal on Scientific

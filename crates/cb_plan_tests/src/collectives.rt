@@ -72,7 +72,8 @@ fn are_closed(acts: &[Act], wanted: &[(u16, u16)]) -> bool {
 
 /// Whether a plan has exactly these Copies and Moves.
 fn has(plan: &Plan, copied: &[Copied], moved: &[Moved]) -> bool {
-    are_copies(plan.acts(), copied) && are_moves(plan.acts(), moved)
+    let (acts, closes) = plan.stored();
+    are_copies(acts, copied) && are_moves(acts, moved) && !closes
 }
 
 /// Appends a broadcast. What its acts do is proved, and that the plan is as it was if they are refused.
@@ -182,10 +183,24 @@ fn shuts(plan: &mut Plan) -> Result<(), PlanFault>
     shut_all(plan)
 }
 
+/// Whether a plan that is at its end has shut exactly these lanes, in this order: it stores no act for them, until
+/// another act follows.
+fn ends_with(plan: &mut Plan, lanes: &[(u16, u16)]) -> bool {
+    let is_short = matches!(plan.stored(), ([], true)) && plan.len() == lanes.len();
+    let follows = plan.push(Act::Shut { from: 2, to: 0 }).is_ok();
+    let (acts, closes) = plan.stored();
+    match acts {
+        [first @ .., Act::Shut { from: 2, to: 0 }] => {
+            is_short && follows && !closes && are_closed(first, lanes)
+        }
+        _ => false,
+    }
+}
+
 #[test]
 fn shuts_each_lane_once(rt: HostRuntime) {
     let mut plan = Plan::new(rt.alloc(), 3);
     let is_appended = shuts(&mut plan).is_ok();
     let lanes: &[(u16, u16)] = &[(0, 1), (0, 2), (1, 0), (1, 2), (2, 0), (2, 1)];
-    assert!(rt; is_appended && are_closed(plan.acts(), lanes));
+    assert!(rt; is_appended && ends_with(&mut plan, lanes));
 }

@@ -116,7 +116,7 @@ fn each_copies_and_clears(acts: &[Act]) -> bool {
 #[test]
 fn each_rank_works(rt: HostRuntime) -> Result<(), Fail> {
     let plan = works(rt.alloc())?;
-    assert!(rt; each_copies_and_clears(plan.acts()));
+    assert!(rt; each_copies_and_clears(plan.stored().0));
     Ok(())
 }
 

@@ -1,4 +1,4 @@
-//! The plans of operations over grids of every side, run act by act.
+//! The plans of operations over grids, run act by act.
 ghost use Rattle.std.specs.Prelude.{◌<◌, IfOk};
 ghost use Rattle.cb_plan.specs.Runnable.{IsRunnable};
 
@@ -198,9 +198,9 @@ fn makes(alloc: Global, side: u32, example: &Example) -> Result<bool, SampleFaul
     leave(alloc, &grid, &stores, &example.wanted)
 }
 
-/// Whether it is right on the grid of every side.
+/// Whether it is right on grids of sides from 1 on.
 fn makes_on_each(alloc: Global, example: &Example) -> bool {
-    for side in 1..=6 {
+    for side in 1..=7 {
         if makes(alloc, side, example) != Ok(true) {
             return false;
         }
@@ -303,7 +303,7 @@ fn makes_vector(alloc: Global, side: u32, example: &Example) -> Result<bool, Sam
 
 #[test]
 fn multiplies_a_vector(rt: HostRuntime) {
-    for side in 1..=6 {
+    for side in 1..=7 {
         assert!(rt; makes_vector(rt.alloc(), side, &VECTOR) == Ok(true));
     }
 }

@@ -318,9 +318,9 @@ fn has_side(side: u32) -> bool {
 }
 
 #[test]
-fn sides_are_one_to_six(rt: HostRuntime) {
-    for side in 0..=7 {
-        assert!(rt; has_side(side) == (1 <= side && side <= 6));
+fn sides_are_one_to_64(rt: HostRuntime) {
+    for side in 0..=65 {
+        assert!(rt; has_side(side) == (1 <= side && side <= 64));
     }
 }
 
@@ -417,10 +417,13 @@ const WHOLE: &[Given<'static>] = &[
     FOUR,
 ];
 
-/// Whether a matrix is distributed over the grid of every side and gathered unchanged.
+/// Sides of grids: those by which the code divides as by known numbers, one beyond them, and the largest.
+const SIDES: &[u32] = &[1, 2, 3, 4, 5, 6, 7, 64];
+
+/// Whether a matrix is distributed over grids and gathered unchanged.
 fn lies_over_each(alloc: Global, given: &Given<'_>) -> bool {
-    for side in 1..=6 {
-        if is_right(alloc, &(side, *given, Check::Whole)) != Ok(true) {
+    for side in SIDES {
+        if is_right(alloc, &(*side, *given, Check::Whole)) != Ok(true) {
             return false;
         }
     }
@@ -437,7 +440,7 @@ fn a_matrix_lies_over_each_grid(rt: HostRuntime) {
 /// Seven rows of one column.
 const SEVEN: Given<'static> = (7, 1, entries![(0, 0, 1), (3, 0, 2), (6, 0, 3)]);
 
-/// Four rows on four ranks; and seven rows on the grid of every side.
+/// Four rows on four ranks; and seven rows on grids of many sides.
 const VECTORS: &[Case<'static>] = &[
     (
         2,
@@ -455,6 +458,7 @@ const VECTORS: &[Case<'static>] = &[
     (4, SEVEN, Check::Rows(&[1, 1, 1, 1, 1, 1, 1])),
     (5, SEVEN, Check::Rows(&[1, 1, 1, 1, 0, 1, 1, 1])),
     (6, SEVEN, Check::Rows(&[1, 1, 1, 1, 0, 0, 1, 1, 1])),
+    (64, SEVEN, Check::Rows(&[1, 1, 1, 1, 1, 1, 1])),
 ];
 
 #[test]
@@ -489,9 +493,9 @@ fn is_a_turned_square(alloc: Global, side: u32) -> Result<bool, SampleFault> {
 /// Piece t of part i of an input is where piece i of part t of a result is. So a vector with a row for each rank, taken as
 /// a result, is transposed as a square.
 #[test]
-fn vectors_on_every_side(rt: HostRuntime) {
-    for side in 1..=6 {
-        assert!(rt; is_a_turned_square(rt.alloc(), side) == Ok(true));
+fn vectors_on_grids_of_many_sides(rt: HostRuntime) {
+    for side in SIDES {
+        assert!(rt; is_a_turned_square(rt.alloc(), *side) == Ok(true));
     }
 }
 
@@ -512,24 +516,63 @@ fn a_matrix_grows_entry_by_entry(rt: HostRuntime) {
     assert!(rt; are_right(rt.alloc(), GROWN));
 }
 
-const SEGMENTS: Case<'static> = (
-    2,
+/// Rows of the grid without entries, between others and at the end; and entries in the last row and column of the grid.
+const SEGMENTS: &[Case<'static>] = &[
     (
-        4,
-        4,
-        entries![(0, 0, 1), (1, 0, 2), (2, 0, 3), (3, 2, 4), (0, 3, 5)],
+        2,
+        (
+            4,
+            4,
+            entries![(0, 0, 1), (1, 0, 2), (2, 0, 3), (3, 2, 4), (0, 3, 5)],
+        ),
+        Check::Segments(&[
+            (0, 0, &[0, 1], &[1, 2]),
+            (0, 2, &[0], &[3]),
+            (2, 2, &[1], &[4]),
+            (3, 0, &[0], &[5]),
+        ]),
     ),
-    Check::Segments(&[
-        (0, 0, &[0, 1], &[1, 2]),
-        (0, 2, &[0], &[3]),
-        (2, 2, &[1], &[4]),
-        (3, 0, &[0], &[5]),
-    ]),
-);
+    (
+        7,
+        (
+            14,
+            14,
+            entries![
+                (0, 0, 1),
+                (1, 0, 2),
+                (13, 0, 3),
+                (2, 3, 4),
+                (12, 3, 5),
+                (0, 13, 6)
+            ],
+        ),
+        Check::Segments(&[
+            (0, 0, &[0, 1], &[1, 2]),
+            (0, 12, &[1], &[3]),
+            (3, 2, &[0], &[4]),
+            (3, 12, &[0], &[5]),
+            (13, 0, &[0], &[6]),
+        ]),
+    ),
+    (
+        64,
+        (
+            127,
+            64,
+            entries![(0, 0, 1), (126, 0, 2), (4, 63, 3), (126, 63, 4)],
+        ),
+        Check::Segments(&[
+            (0, 0, &[0], &[1]),
+            (0, 126, &[0], &[2]),
+            (63, 4, &[0], &[3]),
+            (63, 126, &[0], &[4]),
+        ]),
+    ),
+];
 
 #[test]
-fn segments_of_a_matrix_on_four_ranks(rt: HostRuntime) {
-    assert!(rt; is_right(rt.alloc(), &SEGMENTS) == Ok(true));
+fn segments_of_a_matrix(rt: HostRuntime) {
+    assert!(rt; are_right(rt.alloc(), SEGMENTS));
 }
 
 /// Four rows and columns.

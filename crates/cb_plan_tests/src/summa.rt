@@ -19,12 +19,12 @@ fn two_by_two(alloc: Global, side: u32) -> Result<Planned, SampleFault> {
 
 /// How many letters a plan has: its Moves and its Shuts.
 fn letters(planned: &Planned) -> usize {
-    planned
-        .plan
-        .acts()
+    let (acts, _) = planned.plan.stored();
+    let works = acts
         .iter()
-        .filter(|act| !matches!(act, Act::Work { .. }))
-        .count()
+        .filter(|act| matches!(act, Act::Work { .. }))
+        .count();
+    planned.plan.len().saturating_sub(works)
 }
 
 /// Whether the plan on the grid of this side has this many acts, this many of them letters, and its result in slot 2.
@@ -40,6 +40,8 @@ const COUNTS: &[(u32, usize, usize)] = &[
     (4, 448, 336),
     (5, 1000, 800),
     (6, 1944, 1620),
+    (7, 3430, 2940),
+    (8, 5632, 4928),
 ];
 
 #[test]
@@ -86,7 +88,7 @@ fn has_moves(acts: &[Act]) -> bool {
 /// Whether the plan on the grid of side 2 has those Moves.
 fn has_moves_on_four(alloc: Global) -> Result<bool, SampleFault> {
     let planned = two_by_two(alloc, 2)?;
-    Ok(has_moves(planned.plan.acts()))
+    Ok(has_moves(planned.plan.stored().0))
 }
 
 #[test]
@@ -120,7 +122,7 @@ fn acts_and_masks(alloc: Global) -> Result<(usize, usize), SampleFault> {
     let grid = grid_of(2)?;
     let shape = shape(2, 2)?;
     match summa_masked(alloc, &grid, shape, shape) {
-        Ok(planned) => Ok((planned.plan.len(), masks(planned.plan.acts()))),
+        Ok(planned) => Ok((planned.plan.len(), masks(planned.plan.stored().0))),
         Err(_) => Err(SampleFault::Shape),
     }
 }

@@ -1,34 +1,33 @@
 -- What the plan for writing leaves: the panels of the matrix.
-use Rattle.std.proofs.Common.{◌≡◌, ◌≢◌, ℕ, zero, suc, ◌+◌, ◌-◌, ◌*◌, ◌/◌, ◌%◌, ◌<◌, ◌≤◌, true, false, cond, ◌++◌, map, length, refl, sym, ap, ◌∙◌, arith}
-use Rattle.std.specs.Prelude.{Option, Some, ◌&&◌, nat_le, nat_lt, flat_map}
+use Rattle.std.proofs.Common.{◌≡◌, ◌≢◌, ℕ, zero, suc, ◌+◌, ◌-◌, ◌*◌, ◌/◌, ◌%◌, ◌<◌, ◌≤◌, true, false, cond, ◌++◌, map, refl, sym, ap, ◌∙◌, arith}
+use Rattle.std.specs.Prelude.{Option, Some, ◌&&◌, nat_le, nat_lt}
 use Rattle.std.specs.List.{range_with_len}
 use Rattle.std.proofs.lemmas.Bool.Decides.{nat_tests}
-use Rattle.std.proofs.lemmas.List.FromFn.{length-map-range_with_len, get_or-map-range_with_len}
 use Rattle.cb_semirings.specs.Arithmetic.{Arithmetic, IsValue, IsSemiring}
 use Rattle.cb_matrix.specs.Sparse.{Sparse, Extent, IsMatrix, at}
 use Rattle.cb_matrix.specs.Values.{matrix_of}
 use Rattle.cb_matrix.specs.Operations.{cut, placed, is_covered, sum_of}
 use Rattle.cb_matrix.proofs.Made.{at-matrix_of, same_matrix_of}
 use Rattle.cb_matrix.proofs.Totals.{add_zero, value_at-value}
-use Rattle.cb_grid.specs.Parts.{column_group, part, part_start, part_length, part_shape}
+use Rattle.cb_grid.specs.Parts.{part, part_start, part_length, part_shape}
 use Rattle.cb_grid.specs.Blocks.{block_of}
 use Rattle.cb_grid.specs.Pieces.{piece, piece_start}
 use Rattle.cb_grid.proofs.Parts.{rank_below}
 use Rattle.cb_plan.specs.Meaning.{Algebra, State, meaning, one}
 use Rattle.cb_plan.specs.Algebras.{matrices}
 use Rattle.cb_plan.proofs.Effects.{split, meaning-append}
-use Rattle.cb_plan_parts.specs.Collectives.{member, shut_acts}
+use Rattle.cb_plan_parts.specs.Collectives.{shut_acts}
 use Rattle.cb_plan_parts.specs.PlanParts.{tagged}
-use Rattle.cb_plan_parts.proofs.Grid.{at_place, in_column, column_distinct}
+use Rattle.cb_plan_parts.proofs.Grid.{at_place}
 use Rattle.cb_plan_parts.proofs.PartStarts.{start_zero, start_rises, start_within, start_last}
 use Rattle.cb_plan_parts.proofs.ShutMeaning.{shut_nothing}
 use Rattle.cb_plan_operations.specs.VectorPlans.{each_works}
-use Rattle.cb_plan_operations.proofs.RankPrograms.{after_ops, after_ops-append, each_sets, each_works_here}
-use Rattle.cb_plan_operations.proofs.VectorSteps.{summed, yes, no}
-use Rattle.cb_plan_transfers.specs.Rounds.{sums}
-use Rattle.cb_plan_transfers.specs.Panels.{IsPanelsPlan, panel_of, block_cut, block_cuts, cuts_at, column_rounds, placed_part, joined_parts, joined_at, panels_acts}
-use Rattle.cb_plan_transfers.proofs.ReceivedBlocks.{op_skips, ops_set, sums_made}
-use Rattle.cb_plan_transfers.proofs.RoundsMeaning.{rounds_bring, rounds_elsewhere}
+use Rattle.cb_plan_operations.proofs.RankPrograms.{after_ops, after_ops-append, each_works_here}
+use Rattle.cb_plan_operations.proofs.VectorSteps.{summed, yes}
+use Rattle.cb_plan_transfers.specs.Rounds.{column_exchanges, sums}
+use Rattle.cb_plan_transfers.specs.Panels.{IsPanelsPlan, panel_of, cuts_at, placed_part, joined_parts, joined_at, panels_acts}
+use Rattle.cb_plan_transfers.proofs.ReceivedBlocks.{op_skips, ops_set, cuts_made, sums_made}
+use Rattle.cb_plan_transfers.proofs.RoundsMeaning.{columns_exchange}
 
 -- ---- the slots after each step, over blocks of any kind
 module _ {M : Type 0} (ops : Algebra M) (q : ℕ) (shape : Extent) (state : State M) (block : ℕ → ℕ → M) (has : (i j : ℕ) → i < q → j < q → state (i * q + j) 0 ≡ Some (block i j)) where
@@ -36,52 +35,21 @@ module _ {M : Type 0} (ops : Algebra M) (q : ℕ) (shape : Extent) (state : Stat
   abbrev pub piece_at : ℕ → ℕ → ℕ → M
   piece_at i j k = ops.cut (0, part_length q shape.rows i) (part q (part_length q shape.cols j) k) (block i j)
 
-  -- slot 1 + k has piece k of the columns of a rank's block
-  cuts_make : (slots : ℕ → Option M) (size : Extent) (x : M) (k : ℕ) → k < q → slots 0 ≡ Some x → after_ops ops (block_cuts q size) slots (1 + k) ≡ Some (ops.cut (0, size.rows) (part q size.cols k) x)
-  cuts_make slots size x k l is =
-      ops_set ops (block_cut q size) (1 + k) k (λ sl. one (ops.cut (0, size.rows) (part q size.cols k)) (sl 0)) 0 q slots (omega arith) (omega arith)
-      (λ sl. rw (yes (1 + k)) refl)
-      (λ h ne. let other : 1 + h ≢ 1 + k = omega (arith, ne) in other)
-      (λ h _ _ sl. ap (one (ops.cut (0, size.rows) (part q size.cols k))) (op_skips ops (block_cut q size h) 0 sl (let ne : 1 + h ≢ 0 = omega arith in ne)))
-      ∙ ap (one (ops.cut (0, size.rows) (part q size.cols k))) is
-
   abbrev after_cuts : State M
   after_cuts = meaning ops (each_works q (cuts_at q shape)) state
 
   pieces_cut : (i j k : ℕ) → i < q → j < q → k < q → after_cuts (i * q + j) (1 + k) ≡ Some (piece_at i j k)
   pieces_cut i j k l m o =
       ap (λ slots. slots (1 + k)) (each_works_here ops q (cuts_at q shape) state (i * q + j) (rank_below q i j l m))
-      ∙ cuts_make (state (i * q + j)) (part_shape q shape ((i * q + j) / q) ((i * q + j) % q)) (block i j) k o (has i j l m)
+      ∙ cuts_made ops 0 (λ _. (0, part_length q shape.rows ((i * q + j) / q))) (part q (part_length q shape.cols ((i * q + j) % q))) q (state (i * q + j)) (block i j) k o (λ h _. let ne : 1 + h ≢ 0 = omega arith in ne) (has i j l m)
       ∙ at_place (λ x y. Some (ops.cut (0, part_length q shape.rows x) (part q (part_length q shape.cols y) k) (block i j))) q i j m
 
-  -- ---- the ranks of each column exchange pieces
-  column_count : (j : ℕ) → length (column_group q j) ≡ q
-  column_count j = length-map-range_with_len (λ i. i * q + j) 0 q
-
-  column_member : (j p : ℕ) → p < q → member (column_group q j) p ≡ p * q + j
-  column_member j p l = get_or-map-range_with_len (λ i. i * q + j) 0 q p p 0 l (omega arith)
-
-  column_elsewhere : (g : ℕ) (st : State M) → g < q → (i j x : ℕ) → i < q → j < q → g ≢ j → meaning ops (column_rounds q g) st (i * q + j) x ≡ st (i * q + j) x
-  column_elsewhere g st b i j x l m ne = rounds_elsewhere ops (column_group q g) (tagged 1) 1 (1 + q) st (i * q + j) x (in_column q i j g l m b ∙ no g j ne)
-
-  column_here : (j : ℕ) (st : State M) → j < q → (i k : ℕ) → i < q → k < q → meaning ops (column_rounds q j) st (k * q + j) (1 + q + i) ≡ st (i * q + j) (1 + k)
-  column_here j st m i k l o =
-      let c = column_count j in
-      ap (λ r. meaning ops (column_rounds q j) st r (1 + q + i)) (sym (column_member j k o))
-      ∙ rounds_bring ops (column_group q j) (tagged 1) 1 (1 + q) (column_distinct q j m) (omega arith) st i k (omega arith) (omega arith)
-      ∙ ap (λ r. st r (1 + k)) (column_member j i l)
-
-  abbrev after_rounds : State M
-  after_rounds = meaning ops (flat_map (column_rounds q) (range_with_len 0 q)) after_cuts
+  abbrev after_exchange : State M
+  after_exchange = meaning ops (column_exchanges q (tagged 1)) after_cuts
 
   -- each rank has its piece of each block of its column
-  pieces_come : (i j k : ℕ) → i < q → j < q → k < q → after_rounds (k * q + j) (1 + q + i) ≡ Some (piece_at i j k)
-  pieces_come i j k l m o =
-      each_sets ops (column_rounds q) (k * q + j) (1 + q + i) j (λ st. st (i * q + j) (1 + k)) 0 q after_cuts (omega arith) (omega arith)
-      (λ st. column_here j st m i k l o)
-      (λ g _ b ne st. column_elsewhere g st (omega arith) k j (1 + q + i) o m ne)
-      (λ g _ b ne st. column_elsewhere g st (omega arith) i j (1 + k) l m ne)
-      ∙ pieces_cut i j k l m o
+  pieces_come : (i j k : ℕ) → i < q → j < q → k < q → after_exchange (k * q + j) (1 + q + i) ≡ Some (piece_at i j k)
+  pieces_come i j k l m o = columns_exchange ops q (tagged 1) after_cuts i j k l m o ∙ pieces_cut i j k l m o
 
   -- ---- each rank puts them together
   places_make : (left : ℕ) (slots : ℕ → Option M) (parts : ℕ → M) → ((i : ℕ) → i < q → slots (1 + q + i) ≡ Some (parts i)) → (i : ℕ) → i < q →
@@ -98,26 +66,26 @@ module _ {M : Type 0} (ops : Algebra M) (q : ℕ) (shape : Extent) (state : Stat
   abbrev pub placed_at : ℕ → ℕ → ℕ → M
   placed_at j k i = ops.place shape (part_start q shape.rows i, piece_start q shape.cols j k) (piece_at i j k)
 
-  joined_make : (k j : ℕ) → k < q → j < q → after_ops ops (joined_parts q shape (piece_start q shape.cols j k)) (after_rounds (k * q + j)) (1 + q) ≡ Some (summed ops (placed_at j k) (q - 1))
+  joined_make : (k j : ℕ) → k < q → j < q → after_ops ops (joined_parts q shape (piece_start q shape.cols j k)) (after_exchange (k * q + j)) (1 + q) ≡ Some (summed ops (placed_at j k) (q - 1))
   joined_make k j l m =
       let left = piece_start q shape.cols j k in
       let puts = map (placed_part q shape left) (range_with_len 0 q) in
-      ap (λ s. s (1 + q)) (after_ops-append ops puts (sums (1 + q) q) (after_rounds (k * q + j)))
-      ∙ sums_made ops (placed_at j k) (1 + q) q (after_ops ops puts (after_rounds (k * q + j))) (omega arith)
-      (λ i o. places_make left (after_rounds (k * q + j)) (λ i. piece_at i j k) (λ i o. pieces_come i j k o m l) i o)
+      ap (λ s. s (1 + q)) (after_ops-append ops puts (sums (1 + q) q) (after_exchange (k * q + j)))
+      ∙ sums_made ops (placed_at j k) (1 + q) q (after_ops ops puts (after_exchange (k * q + j))) (omega arith)
+      (λ i o. places_make left (after_exchange (k * q + j)) (λ i. piece_at i j k) (λ i o. pieces_come i j k o m l) i o)
 
   -- after all acts each rank has the sum of what was placed
   pub parts_joined : (k j : ℕ) → k < q → j < q → meaning ops (panels_acts q shape) state (k * q + j) (1 + q) ≡ Some (summed ops (placed_at j k) (q - 1))
   parts_joined k j l m =
-      let sent = flat_map (column_rounds q) (range_with_len 0 q) in
+      let sent = column_exchanges q (tagged 1) in
       let joins = each_works q (joined_at q shape) in
       let cuts = each_works q (cuts_at q shape) in
       ap (λ st. st (k * q + j) (1 + q)) (meaning-append ops (cuts ++ (sent ++ joins)) (shut_acts (q * q)) state
       ∙ shut_nothing ops (q * q) (meaning ops (cuts ++ (sent ++ joins)) state)
       ∙ meaning-append ops cuts (sent ++ joins) state
       ∙ meaning-append ops sent joins after_cuts)
-      ∙ ap (λ slots. slots (1 + q)) (each_works_here ops q (joined_at q shape) after_rounds (k * q + j) (rank_below q k j l m))
-      ∙ at_place (λ x y. after_ops ops (joined_parts q shape (piece_start q shape.cols y x)) (after_rounds (k * q + j)) (1 + q)) q k j m
+      ∙ ap (λ slots. slots (1 + q)) (each_works_here ops q (joined_at q shape) after_exchange (k * q + j) (rank_below q k j l m))
+      ∙ at_place (λ x y. after_ops ops (joined_parts q shape (piece_start q shape.cols y x)) (after_exchange (k * q + j)) (1 + q)) q k j m
       ∙ joined_make k j l m
 
 -- ---- over a semiring: the panel of rank (k, j)

@@ -1,10 +1,11 @@
--- Operations of a rank, of which one alone sets a slot; and sums of the blocks that a rank has.
+-- Operations of a rank, of which one alone sets a slot; parts of a block that a rank has, and sums of the blocks.
 use Rattle.std.proofs.Common.{◌≡◌, ◌≢◌, ℕ, zero, suc, ◌+◌, ◌-◌, ◌<◌, ◌≤◌, true, false, map, refl, sym, ap, subst, ◌∙◌, arith}
 use Rattle.std.specs.Prelude.{Option, Some, ◌==◌}
 use Rattle.std.specs.List.{range_with_len}
 use Rattle.std.proofs.lemmas.Bool.Decides.{nat_tests}
 use Rattle.cb_plan.specs.declared.acts.Op.{Op}
-use Rattle.cb_plan.specs.Meaning.{Algebra, target_of, two}
+use Rattle.cb_plan.specs.declared.acts.Op.TheVariants as op_is
+use Rattle.cb_plan.specs.Meaning.{Algebra, target_of, one, two}
 use Rattle.cb_plan.proofs.Effects.{split}
 use Rattle.cb_plan_operations.proofs.RankPrograms.{after_op, after_ops, ops_skip}
 use Rattle.cb_plan_operations.proofs.VectorSteps.{summed, yes, no}
@@ -33,6 +34,17 @@ module _ {M : Type 0} (ops : Algebra M) where
       let b : a < h = grind (arith, nat_tests) in
       ops_set f x h v (a + 1) n next (omega arith) (omega arith) here others (λ k i. same k (omega arith))
       ∙ same a (omega arith) b slots)
+
+  -- slot 1 + k has a part of what is in another slot
+  pub cuts_made : (a : ℕ) (rows cols : ℕ → ℕ × ℕ) (count : ℕ) (slots : ℕ → Option M) (block : M) (k : ℕ) → k < count → ((h : ℕ) → h < count → 1 + h ≢ a) → slots a ≡ Some block →
+      after_ops ops (map (λ h. op_is.Cut a (rows h) (cols h) (1 + h)) (range_with_len 0 count)) slots (1 + k) ≡ Some (ops.cut (rows k) (cols k) block)
+  cuts_made a rows cols count slots block k l away is =
+      let part = one (ops.cut (rows k) (cols k)) in
+      ops_set (λ h. op_is.Cut a (rows h) (cols h) (1 + h)) (1 + k) k (λ sl. part (sl a)) 0 count slots (omega arith) (omega arith)
+      (λ sl. rw (yes (1 + k)) refl)
+      (λ h ne. let other : 1 + h ≢ 1 + k = omega (arith, ne) in other)
+      (λ h _ b sl. ap part (op_skips (op_is.Cut a (rows h) (cols h) (1 + h)) a sl (away h (omega arith))))
+      ∙ ap part is
 
   -- later blocks are added to the sum of those up to number a
   blocks_add : (block : ℕ → M) (first a m b : ℕ) (slots : ℕ → Option M) → a + m ≡ b → slots first ≡ Some (summed ops block a) → ((t : ℕ) → 0 < t → t ≤ b → slots (first + t) ≡ Some (block t)) →

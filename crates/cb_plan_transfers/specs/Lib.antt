@@ -1,4 +1,4 @@
--- WholeStarts: the starts by which each rank has a whole block. Rounds: an exchange in rounds, and sums of received blocks.
+-- WholeStarts: the starts by which each rank has a whole block. Rounds: what ranks cut, exchange in rounds, and add up.
 -- Pieces: what the plan for reading leaves, and its acts. Panels: the same of the plan for writing.
 pub mod WholeStarts
 pub mod Rounds

@@ -1,5 +1,5 @@
 -- The plan that brings the parts of a matrix into the order of its text: each rank gets some whole columns.
-use Rattle.std.specs.Prelude.{◌≡◌, ℕ, ◌+◌, ◌*◌, ◌/◌, ◌%◌, ◌<◌, List, ◌++◌, map, flat_map, Some}
+use Rattle.std.specs.Prelude.{◌≡◌, ℕ, ◌+◌, ◌*◌, ◌/◌, ◌%◌, ◌<◌, List, ◌++◌, map, Some}
 use Rattle.std.specs.List.{range_with_len}
 use Rattle.cb_semirings.specs.Arithmetic.{Arithmetic, IsSemiring}
 use Rattle.cb_matrix.specs.Sparse.{Extent, Sparse, IsMatrix}
@@ -9,12 +9,12 @@ use Rattle.cb_plan.specs.declared.acts.Op.TheVariants as op_is
 use Rattle.cb_plan.specs.declared.acts.Act.{Act}
 use Rattle.cb_plan.specs.Meaning.{State, meaning}
 use Rattle.cb_plan.specs.Algebras.{matrices}
-use Rattle.cb_grid.specs.Parts.{column_group, part, part_start, part_shape}
+use Rattle.cb_grid.specs.Parts.{part_start, part_shape}
 use Rattle.cb_grid.specs.Pieces.{piece, piece_start}
 use Rattle.cb_plan_parts.specs.Collectives.{shut_acts}
 use Rattle.cb_plan_parts.specs.PlanParts.{tagged, HasParts}
 use Rattle.cb_plan_operations.specs.VectorPlans.{each_works}
-use Rattle.cb_plan_transfers.specs.Rounds.{rounds, sums}
+use Rattle.cb_plan_transfers.specs.Rounds.{column_cuts, column_exchanges, sums}
 
 -- ---- what it leaves
 -- the columns of a range, in the matrix's shape, where the other columns have no entries
@@ -37,21 +37,9 @@ IsPanelsPlan acts q shape n =
     → HasParts s q m 0 state → HasPanels s q m n (meaning (matrices s) acts state)
 
 -- ---- its acts
--- piece k of the columns of a block of this shape goes to slot 1 + k
-abbrev pub block_cut : ℕ → Extent → ℕ → Op
-block_cut q block k = op_is.Cut 0 (0, block.rows) (part q block.cols k) (1 + k)
-
--- a rank cuts its block for the ranks of its column
-abbrev pub block_cuts : ℕ → Extent → List Op
-block_cuts q block = map (block_cut q block) (range_with_len 0 q)
-
--- the block of rank r of a matrix of this shape
+-- rank r cuts its block of a matrix of this shape for the ranks of its column
 abbrev pub cuts_at : ℕ → Extent → ℕ → List Op
-cuts_at q shape r = block_cuts q (part_shape q shape (r / q) (r % q))
-
--- the ranks of column j exchange what they cut
-abbrev pub column_rounds : ℕ → ℕ → List Act
-column_rounds q j = rounds (column_group q j) (tagged 1) 1 (1 + q)
+cuts_at q shape r = column_cuts q (part_shape q shape (r / q) (r % q))
 
 -- what came from row i of the grid, in its place in the whole shape
 abbrev pub placed_part : ℕ → Extent → ℕ → ℕ → Op
@@ -69,6 +57,6 @@ joined_at q shape r = joined_parts q shape (piece_start q shape.cols (r % q) (r 
 abbrev pub panels_acts : ℕ → Extent → List Act
 panels_acts q shape =
     (each_works q (cuts_at q shape)
-    ++ (flat_map (column_rounds q) (range_with_len 0 q)
+    ++ (column_exchanges q (tagged 1)
     ++ each_works q (joined_at q shape)))
     ++ shut_acts (q * q)

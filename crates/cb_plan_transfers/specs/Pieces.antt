@@ -1,5 +1,5 @@
 -- The plan that brings the entries of pieces of a text to the ranks that own them.
-use Rattle.std.specs.Prelude.{◌≡◌, ℕ, ◌+◌, ◌*◌, ◌/◌, ◌%◌, ◌<◌, List, [], ◌∷◌, ◌++◌, map, Some}
+use Rattle.std.specs.Prelude.{◌≡◌, ℕ, ◌+◌, ◌*◌, ◌%◌, ◌<◌, List, [], ◌∷◌, ◌++◌, map, Some}
 use Rattle.std.specs.List.{range_with_len}
 use Rattle.cb_semirings.specs.Arithmetic.{Arithmetic, IsSemiring}
 use Rattle.cb_matrix.specs.Sparse.{Extent, Sparse, IsMatrix, at}
@@ -9,11 +9,11 @@ use Rattle.cb_plan.specs.declared.acts.Op.TheVariants as op_is
 use Rattle.cb_plan.specs.declared.acts.Act.{Act}
 use Rattle.cb_plan.specs.Meaning.{State, meaning}
 use Rattle.cb_plan.specs.Algebras.{matrices}
-use Rattle.cb_grid.specs.Parts.{part}
+use Rattle.cb_grid.specs.Parts.{part, part_length}
 use Rattle.cb_plan_parts.specs.Collectives.{shut_acts}
 use Rattle.cb_plan_parts.specs.PlanParts.{tagged, HasParts}
 use Rattle.cb_plan_operations.specs.VectorPlans.{each_works}
-use Rattle.cb_plan_transfers.specs.Rounds.{rounds, sums}
+use Rattle.cb_plan_transfers.specs.Rounds.{column_cuts, row_exchanges, column_exchanges, sums}
 
 -- ---- what it leaves
 -- a rank has a piece: a matrix of the whole shape
@@ -38,26 +38,30 @@ IsPiecesPlan acts q shape n =
     → HasParts s q (sum_of_pieces s (q * q) shape pieces) n (meaning (matrices s) acts state)
 
 -- ---- its acts
--- the part of rank t, cut out of the piece, goes to slot 1 + t
-abbrev pub piece_cut : ℕ → Extent → ℕ → Op
-piece_cut q shape t = op_is.Cut 0 (part q shape.rows (t / q)) (part q shape.cols (t % q)) (1 + t)
-
--- a rank cuts its piece into the parts of all ranks, and doesn't keep it
+-- a rank cuts its piece by columns, for the ranks of its row, and doesn't keep it
 abbrev pub piece_cuts : ℕ → Extent → List Op
-piece_cuts q shape = map (piece_cut q shape) (range_with_len 0 (q * q)) ++ op_is.Clear 0 ∷ []
+piece_cuts q shape = column_cuts q shape ++ op_is.Clear 0 ∷ []
 
--- the ranks of a grid of side q, ascending
-abbrev pub all_ranks : ℕ → List ℕ
-all_ranks q = range_with_len 0 (q * q)
-
--- each rank adds up what it received from all ranks
+-- each rank adds up what it received
 abbrev pub received_sums : ℕ → List Act
-received_sums q = each_works q (λ _. sums (1 + q * q) (q * q))
+received_sums q = each_works q (λ _. sums (1 + q) q)
 
--- each rank receives its part of each piece, and adds them up
+-- part i of the rows of the sum that rank r made goes to slot 1 + i
+abbrev pub sum_cut : ℕ → Extent → ℕ → ℕ → Op
+sum_cut q shape r i = op_is.Cut (1 + q) (part q shape.rows i) (0, part_length q shape.cols (r % q)) (1 + i)
+
+-- rank r cuts its sum by rows, for the ranks of its column
+abbrev pub sum_cuts : ℕ → Extent → ℕ → List Op
+sum_cuts q shape r = map (sum_cut q shape r) (range_with_len 0 q)
+
+-- Each rank receives its columns of each piece of its row of the grid, and adds them up. Then it receives its rows of each such
+-- sum of its column, and adds these up.
 abbrev pub pieces_acts : ℕ → Extent → List Act
 pieces_acts q shape =
     (each_works q (λ _. piece_cuts q shape)
-    ++ (rounds (all_ranks q) (tagged 0) 1 (1 + q * q)
-    ++ received_sums q))
+    ++ (row_exchanges q (tagged 0)
+    ++ (received_sums q
+    ++ (each_works q (sum_cuts q shape)
+    ++ (column_exchanges q (tagged 0)
+    ++ received_sums q)))))
     ++ shut_acts (q * q)

@@ -1,15 +1,14 @@
 //! From the blocks of a matrix to panels of whole columns.
-ghost use Rattle.std.specs.Prelude.{◌≡◌, ◌<◌, ◌+◌, ◌*◌, ◌/◌, ◌%◌, [], ◌∷◌, flat_map, IfOk, OnOk};
-ghost use Rattle.std.specs.List.{range_with_len};
+ghost use Rattle.std.specs.Prelude.{◌≡◌, ◌<◌, ◌+◌, ◌*◌, ◌/◌, ◌%◌, [], ◌∷◌, IfOk, OnOk};
 ghost use Rattle.cb_grid.specs.Pieces.{piece_start};
 ghost use Rattle.cb_plan_parts.specs.Growth.{Grew};
 ghost use Rattle.cb_plan_parts.specs.PlanParts.{operand_starts};
 ghost use Rattle.cb_plan_operations.specs.VectorPlans.{works, each_works};
-ghost use Rattle.cb_plan_transfers.specs.Panels.{IsPanelsPlan, block_cuts, cuts_at, column_rounds, joined_parts, joined_at, panels_acts};
+ghost use Rattle.cb_plan_transfers.specs.Panels.{IsPanelsPlan, cuts_at, joined_parts, joined_at, panels_acts};
 
-use crate::rounds::exchange_in_rounds;
+use crate::rounds::exchange_in_columns;
 use crate::starts::checked;
-use crate::works::{add_up, work};
+use crate::works::{add_up, cut_columns, work};
 use cb_grid::Grid;
 use cb_letters::Tag;
 use cb_matrix::Shape;
@@ -20,42 +19,13 @@ use std::alloc::Global;
 /// The tag of the parts of blocks.
 const PARTS: Tag = Tag(1);
 
-/// A rank cuts its block, of this shape, by columns, a part for each rank of its column of the grid: that of row k goes to slot
-/// `1 + k`.
-fn cut_block(plan: &mut Plan, grid: &Grid, block: Shape, rank: u16) -> Result<(), PlanFault>
-    ensures acts { OnOk result (Grew (works rank (block_cuts grid.now.side block)) plan.old plan.new) }
-{
-    for k in 0..grid.side() {
-        let op = Op::Cut {
-            a: 0,
-            rows: (0, block.rows()),
-            cols: grid.range(block.cols(), k),
-            into: 1 + k as u16,
-        };
-        work(plan, rank, op)?;
-    }
-    Ok(())
-}
-
-/// Each rank cuts its block of a matrix of this shape.
+/// Each rank cuts its block of a matrix of this shape by columns, a part for each rank of its column of the grid.
 fn cut_blocks(plan: &mut Plan, grid: &Grid, shape: Shape) -> Result<(), PlanFault>
     ensures acts { OnOk result (Grew (each_works grid.now.side (cuts_at grid.now.side shape)) plan.old plan.new) }
 {
     for rank in 0..grid.ranks() {
         let block = grid.block_shape(shape, rank);
-        cut_block(plan, grid, block, rank)?;
-    }
-    Ok(())
-}
-
-/// The ranks of each column of the grid exchange what they cut: that of row i's block is then in slot `1 + side + i`.
-fn exchange_parts(plan: &mut Plan, alloc: Global, grid: &Grid) -> Result<(), PlanFault>
-    ensures acts { OnOk result (Grew (flat_map (column_rounds grid.now.side) (range_with_len 0 grid.now.side)) plan.old plan.new) }
-{
-    let side = grid.side();
-    for j in 0..side {
-        let group = grid.column_group(alloc, j);
-        exchange_in_rounds(plan, group.as_slice(), PARTS, 1, 1 + side as u16)?;
+        cut_columns(plan, grid, block, rank)?;
     }
     Ok(())
 }
@@ -115,7 +85,7 @@ fn join_all(plan: &mut Plan, grid: &Grid, shape: Shape) -> Result<(), PlanFault>
 /// which the panel is: some whole columns, in the matrix's shape. Rank (i, j) gets part i of the columns of part j, so by column
 /// of the grid, and in it by row, the panels are the matrix from left to right.
 ///
-/// With n ranks on a grid of side q it has some 4 n q acts, of which n (q - 1) are moves.
+/// With n ranks on a grid of side q it has some 4 n q acts, of which n (q - 1) are moves, before those that shut the lanes.
 pub fn panels_plan(
     alloc: Global,
     grid: &Grid,
@@ -130,7 +100,7 @@ pub fn panels_plan(
     let starts = operand_starts(alloc, grid, &[Operand { slot: 0, shape }])?;
     let mut plan = Plan::new(alloc, grid.ranks());
     cut_blocks(&mut plan, grid, shape)?;
-    exchange_parts(&mut plan, alloc, grid)?;
+    exchange_in_columns(&mut plan, alloc, grid, PARTS)?;
     join_all(&mut plan, grid, shape)?;
     shut_all(&mut plan)?;
     let plan = checked(alloc, grid, plan, &starts)?;

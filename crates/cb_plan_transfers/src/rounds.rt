@@ -1,17 +1,54 @@
-//! All-to-all in rounds.
+//! All-to-all in rounds, among the ranks of each row or column of a grid.
 ghost use Rattle.std.specs.Prelude.{◌≡◌, ◌<◌, ◌≤◌, ◌+◌, ◌%◌, length, OnOk};
 ghost use Rattle.cb_plan_parts.specs.Collectives.{member, sent};
 ghost use Rattle.cb_plan_parts.specs.Growth.{Grew};
-ghost use Rattle.cb_plan_transfers.specs.Rounds.{round, rounds, sent_ahead};
+ghost use Rattle.cb_plan_transfers.specs.Rounds.{column_exchanges, round, rounds, row_exchanges, sent_ahead};
 
+use cb_grid::Grid;
 use cb_letters::Tag;
 use cb_plan::{Act, Op, Plan, PlanFault, SLOTS};
+use std::alloc::Global;
+
+/// The ranks of each row of the grid exchange what is in their slots from 1 on: slot `1 + k` of rank (i, j) goes to slot
+/// `1 + side + j` of rank (i, k).
+pub(crate) fn exchange_in_rows(
+    plan: &mut Plan,
+    alloc: Global,
+    grid: &Grid,
+    tag: Tag,
+) -> Result<(), PlanFault>
+    ensures acts { OnOk result (Grew (row_exchanges grid.now.side tag) plan.old plan.new) }
+{
+    let side = grid.side();
+    for i in 0..side {
+        let group = grid.row_group(alloc, i);
+        exchange_in_rounds(plan, group.as_slice(), tag, 1, 1 + side as u16)?;
+    }
+    Ok(())
+}
+
+/// The ranks of each column of the grid do so: slot `1 + k` of rank (i, j) goes to slot `1 + side + i` of rank (k, j).
+pub(crate) fn exchange_in_columns(
+    plan: &mut Plan,
+    alloc: Global,
+    grid: &Grid,
+    tag: Tag,
+) -> Result<(), PlanFault>
+    ensures acts { OnOk result (Grew (column_exchanges grid.now.side tag) plan.old plan.new) }
+{
+    let side = grid.side();
+    for j in 0..side {
+        let group = grid.column_group(alloc, j);
+        exchange_in_rounds(plan, group.as_slice(), tag, 1, 1 + side as u16)?;
+    }
+    Ok(())
+}
 
 /// Each member sends a slot to each member, and to itself: slot `slot + t` of member s goes to slot `into + s` of member t. In
 /// one round each sends to the member that is so far ahead of it in the list, so no member gets all letters at once.
 ///
 /// For n members it appends n² acts, of which n² - n are moves.
-pub(crate) fn exchange_in_rounds(
+fn exchange_in_rounds(
     plan: &mut Plan,
     members: &[u16],
     tag: Tag,

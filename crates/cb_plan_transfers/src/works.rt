@@ -2,8 +2,10 @@
 ghost use Rattle.std.specs.Prelude.{◌≡◌, ◌<◌, ◌≤◌, ◌+◌, [], ◌∷◌, OnOk};
 ghost use Rattle.cb_plan_parts.specs.Growth.{Grew};
 ghost use Rattle.cb_plan_operations.specs.VectorPlans.{works};
-ghost use Rattle.cb_plan_transfers.specs.Rounds.{sums};
+ghost use Rattle.cb_plan_transfers.specs.Rounds.{column_cuts, sums};
 
+use cb_grid::Grid;
+use cb_matrix::Shape;
 use cb_plan::{Act, Op, Plan, PlanFault, SLOTS};
 
 /// A rank does an operation.
@@ -11,6 +13,27 @@ pub(crate) fn work(plan: &mut Plan, rank: u16, op: Op) -> Result<(), PlanFault>
     ensures acts { OnOk result (Grew (works rank (op ∷ [])) plan.old plan.new) }
 {
     plan.push(Act::Work { rank, op })?;
+    Ok(())
+}
+
+/// A rank cuts what is in slot 0, a block of this shape, by columns: part k goes to slot `1 + k`.
+pub(crate) fn cut_columns(
+    plan: &mut Plan,
+    grid: &Grid,
+    block: Shape,
+    rank: u16,
+) -> Result<(), PlanFault>
+    ensures acts { OnOk result (Grew (works rank (column_cuts grid.now.side block)) plan.old plan.new) }
+{
+    for k in 0..grid.side() {
+        let op = Op::Cut {
+            a: 0,
+            rows: (0, block.rows()),
+            cols: grid.range(block.cols(), k),
+            into: 1 + k as u16,
+        };
+        work(plan, rank, op)?;
+    }
     Ok(())
 }
 

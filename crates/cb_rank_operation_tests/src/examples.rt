@@ -18,7 +18,7 @@ use std::thread::Threads;
 pub type Run = (Option<Engine<'static>>, u32);
 
 /// One thread, and every engine. A run of ranks on threads starts one thread per rank.
-pub const RUNS: [Run; 17] = [
+pub const RUNS: [Run; 18] = [
     (None, 1),
     (Some(Engine::InOrder(2, &[])), 1),
     (Some(Engine::InOrder(2, &[])), 2),
@@ -26,6 +26,7 @@ pub const RUNS: [Run; 17] = [
     (Some(Engine::InOrder(2, &[])), 4),
     (Some(Engine::InOrder(2, &[])), 5),
     (Some(Engine::InOrder(2, &[])), 6),
+    (Some(Engine::InOrder(2, &[])), 8),
     (Some(Engine::Traced(2)), 2),
     (Some(Engine::Threads(0)), 2),
     (Some(Engine::Threads(1)), 1),

@@ -1,5 +1,5 @@
 -- From texts to a text: the pieces of a text give its matrix, and the panels of a matrix, in order, give its entries.
-use Rattle.std.proofs.Common.{◌≡◌, ◌≢◌, ℕ, zero, suc, ◌+◌, ◌-◌, ◌*◌, ◌<◌, ◌≤◌, true, false, cond, List, [], ◌∷◌, ◌++◌, map, append-nil, inr, refl, sym, ap, ◌∙◌, arith}
+use Rattle.std.proofs.Common.{◌≡◌, ◌≢◌, ℕ, zero, suc, ◌+◌, ◌-◌, ◌*◌, ◌<◌, ◌≤◌, true, false, cond, List, [], ◌∷◌, ◌++◌, length, map, append-nil, length-append, refl, sym, ap, subst, ◌∙◌, arith}
 use Rattle.std.specs.Prelude.{All, Bool, Option, Some, None, IfSome, unwrap_or, ◌&&◌, ◌==◌, nat_le, nat_lt, flat_map}
 use Rattle.std.specs.List.{range_with_len}
 use Rattle.std.proofs.lemmas.Bool.Decides.{nat_tests}
@@ -18,18 +18,19 @@ use Rattle.cb_market_lines.specs.declared.header.Symmetry.{Symmetry}
 use Rattle.cb_market_lines.specs.declared.header.Symmetry.TheVariants.{General, Symmetric, SkewSymmetric}
 use Rattle.cb_market_lines.specs.declared.size.Size.{Size}
 use Rattle.cb_market_lines.specs.Checks.{entry_of, given_by, mirrored, negative_of}
-use Rattle.cb_market_lines.specs.Faults.{matrix_in}
 use Rattle.cb_market_lines.specs.Lines.{cut_lines, lines, kept}
+use Rattle.cb_market_lines.specs.Reads.{Reads}
 use Rattle.cb_market_lines.proofs.Bodies.{entry_value}
 use Rattle.cb_market.specs.Gathered.{AreSamePlaces}
-use Rattle.cb_market.specs.Pieces.{is_whole, AreFaultless, given_in, IsOpening, IsPart, MayFollow, Part}
-use Rattle.cb_market.proofs.PartedTexts.{given_kept, kept_parted}
+use Rattle.cb_market.specs.Pieces.{AreFaultless, given_in, IsOpening, IsPart, MayFollow, Part}
+use Rattle.cb_market.proofs.PartedTexts.{faultless_both, kept_followed, part_reads}
 use Rattle.cb_grid.specs.Parts.{part_start, part_length}
 use Rattle.cb_grid.specs.Pieces.{piece, piece_start}
 use Rattle.cb_plan_parts.proofs.PartStarts.{map_below, start_zero, start_rises, start_within, start_last}
 use Rattle.cb_plan_transfers.specs.Panels.{panel_of}
 use Rattle.cb_plan_transfers.specs.Pieces.{sum_of_pieces}
-use Rattle.cb_rank_process.specs.Texts.{panel_entries}
+use Rattle.cb_rank_process.specs.declared.texts.LineCounts.{LineCounts}
+use Rattle.cb_rank_process.specs.Texts.{ArePiecesOf, IsPieceOf, counted_lines, panel_entries, texts_from}
 
 -- ---- lists over a range of numbers
 -- a range, parted
@@ -238,6 +239,13 @@ module _ (s : Arithmetic) (laws : IsSemiring s) (shape : Extent) (parts : ℕ �
       (λ i j l k. totals i j l k 0 n (λ r _ b. h r (omega arith)))
 
 -- ---- pieces of a text
+-- a block has what the lines of a text give, after this header
+record IsReadAs (s : Arithmetic) (header : Header) (shape : Extent) (text : List ℕ) (block : Sparse) (counts : LineCounts) : Type 0 where
+  part : Part
+  part_is : IsPart s header shape 1 text part
+  block_is : block ≡ collected s shape part.entries
+  lines : counts.lines ≡ part.lines
+
 module _ (s : Arithmetic) (laws : IsSemiring s) (numbers : ReadsNumbers s) (negatives : HasNegatives s) where
   abbrev HasValue : Entry → Type 0
   HasValue e = IsValue s e.value
@@ -277,27 +285,78 @@ module _ (s : Arithmetic) (laws : IsSemiring s) (numbers : ReadsNumbers s) (nega
 
   module _ (header : Header) (texts : ℕ → List ℕ) where
     -- what the lines of a piece give
-    abbrev pub given_of : ℕ → List Entry
+    abbrev given_of : ℕ → List Entry
     given_of r = given_in s header (kept (lines (texts r)))
 
-    -- pieces give what the lines of all of them give
-    given_joined : (a n : ℕ) → ((r : ℕ) → a ≤ r → r < a + n → is_whole (texts r) ≡ true) → flat_map given_of (range_with_len a n) ≡ given_in s header (kept (lines (flat_map texts (range_with_len a n))))
-    unfolding lines cut_lines
-    given_joined a zero whole = refl
-    given_joined a (suc n) whole =
-        let rest = flat_map texts (range_with_len (a + 1) n) in
-        ap (λ l. given_of a ++ l) (given_joined (a + 1) n (λ r l b. whole r (omega arith) (omega arith)))
-        ∙ sym (flat_map-append (λ ws. given_by s header.symmetry (entry_of s header ws)) (kept (lines (texts a))) (kept (lines rest)))
-        ∙ ap (given_in s header) (sym (kept_parted (texts a) rest (whole a (omega arith) (omega arith))))
+    module _ (end : ℕ) (goes_on : (r : ℕ) → r < end → MayFollow (texts r) [] (texts_from texts (r + 1) (end - (r + 1)))) where
+      -- the lines of a piece, and then those of the pieces after it
+      kept_next : (a n : ℕ) → a + suc n ≡ end → kept (lines (texts_from texts a (suc n))) ≡ kept (lines (texts a)) ++ kept (lines (texts_from texts (a + 1) n))
+      kept_next a n all =
+          let e : end - (a + 1) ≡ n = omega (arith, all) in
+          kept_followed (texts a) (texts_from texts (a + 1) n) (subst (λ k. MayFollow (texts a) [] (texts_from texts (a + 1) k)) e (goes_on a (omega (arith, all))))
 
-    -- The sum of the pieces of a text, each of which is the matrix of what was read of its lines, is the text's matrix.
-    pub sum_of_text : (opening : List ℕ) (size : Size) (line n : ℕ) (parts : ℕ → Part) → IsOpening s opening header size line [] → is_whole opening ≡ true → ((r : ℕ) → r < n → is_whole (texts r) ≡ true)
-        → ((r : ℕ) → r < n → IsPart s header size.shape 1 (texts r) (parts r))
-        → sum_of_pieces s n size.shape (λ r. collected s size.shape (parts r).entries) ≡ matrix_in s (opening ++ flat_map texts (range_with_len 0 n))
-    sum_of_text opening size line n parts is begins whole read =
-        let more = flat_map texts (range_with_len 0 n) in
-        let follows : MayFollow opening [] more = inr (begins, refl) in
-        same_sum size.shape n (λ r. collected s size.shape (parts r).entries) (λ r. collected s size.shape (given_of r)) (λ r l. same_collected size.shape (parts r).entries (given_of r) (read r l).given)
-        ∙ sum_of_collected s laws size.shape given_of n (λ r l. lines_values header size.shape (kept (lines (texts r))) (read r l).faultless)
-        ∙ ap (collected s size.shape) (given_joined 0 n (λ r _ b. whole r (omega arith)) ∙ given_kept s header line more)
-        ∙ sym (is.matrix more follows)
+      -- pieces give what the lines of all of them give
+      given_joined : (a n : ℕ) → a + n ≡ end → flat_map given_of (range_with_len a n) ≡ given_in s header (kept (lines (texts_from texts a n)))
+      unfolding lines cut_lines
+      given_joined a zero all = refl
+      given_joined a (suc n) all =
+          ap (λ l. given_of a ++ l) (given_joined (a + 1) n (omega (arith, all)))
+          ∙ sym (flat_map-append (λ ws. given_by s header.symmetry (entry_of s header ws)) (kept (lines (texts a))) (kept (lines (texts_from texts (a + 1) n))))
+          ∙ ap (given_in s header) (sym (kept_next a n all))
+
+      -- no line has a fault if none of a piece has
+      none_faulty : (shape : Extent) → ((r : ℕ) → r < end → AreFaultless s header shape (kept (lines (texts r)))) → (a n : ℕ) → a + n ≡ end → AreFaultless s header shape (kept (lines (texts_from texts a n)))
+      unfolding lines cut_lines
+      none_faulty shape each a zero all = tt
+      none_faulty shape each a (suc n) all =
+          subst (AreFaultless s header shape) (sym (kept_next a n all))
+          (faultless_both s header shape (kept (lines (texts a))) (kept (lines (texts_from texts (a + 1) n))) (each a (omega (arith, all))) (none_faulty shape each (a + 1) n (omega (arith, all))))
+
+      -- as many lines have an entry as have one in the pieces
+      lines_counted : (counts : ℕ → LineCounts) → ((r : ℕ) → r < end → (counts r).lines ≡ length (kept (lines (texts r)))) → (a n : ℕ) → a + n ≡ end → counted_lines counts a n ≡ length (kept (lines (texts_from texts a n)))
+      unfolding lines cut_lines
+      lines_counted counts each a zero all = refl
+      lines_counted counts each a (suc n) all =
+          let here = each a (omega (arith, all)) in
+          let later = lines_counted counts each (a + 1) n (omega (arith, all)) in
+          let both = length-append (kept (lines (texts a))) (kept (lines (texts_from texts (a + 1) n))) in
+          let whole = ap length (kept_next a n all) in
+          omega (arith, here, later, both, whole)
+
+    -- If as many lines have an entry as are announced, the text reads as the sum of the pieces.
+    text_of_read : (opening : List ℕ) (size : Size) (line n : ℕ) (pieces : ℕ → Sparse) (counts : ℕ → LineCounts) → IsOpening s opening header size line [] → MayFollow opening [] (texts_from texts 0 n)
+        → ((r : ℕ) → r < n → MayFollow (texts r) [] (texts_from texts (r + 1) (n - (r + 1)))) → ((r : ℕ) → r < n → IsReadAs s header size.shape (texts r) (pieces r) (counts r))
+        → counted_lines counts 0 n ≡ size.count → Reads s (opening ++ texts_from texts 0 n) (sum_of_pieces s n size.shape pieces)
+    text_of_read opening size line n pieces counts is follows goes_on read all =
+        let more = texts_from texts 0 n in
+        let whole : Part = record { side = 1; shape = size.shape; lines = counted_lines counts 0 n; entries = given_in s header (kept (lines more)) } in
+        let is_part : IsPart s header size.shape 1 more whole = record {
+          on_grid = refl;
+          in_shape = refl;
+          faultless = none_faulty n goes_on size.shape (λ r l. (read r l).part_is.faultless) 0 n (omega arith);
+          count = lines_counted n goes_on counts (λ r l. (read r l).lines ∙ (read r l).part_is.count) 0 n (omega arith);
+          given = λ i j. refl;
+        } in
+        let sum : sum_of_pieces s n size.shape pieces ≡ collected s size.shape whole.entries =
+        same_sum size.shape n pieces (λ r. collected s size.shape (given_of r)) (λ r l. (read r l).block_is ∙ same_collected size.shape (read r l).part.entries (given_of r) (read r l).part_is.given)
+        ∙ sum_of_collected s laws size.shape given_of n (λ r l. lines_values header size.shape (kept (lines (texts r))) (read r l).part_is.faultless)
+        ∙ ap (collected s size.shape) (given_joined n goes_on 0 n (omega arith)) in
+        subst (Reads s (opening ++ more)) (sym sum) (part_reads s opening header size line [] more 1 whole is follows is_part all)
+
+  -- all processes find the same header and the same size in an opening
+  read_alike : (opening text : List ℕ) (header : Header) (size : Size) (line : ℕ) (piece : Sparse) (counts : LineCounts) → IsOpening s opening header size line [] → IsPieceOf s opening text piece counts → IsReadAs s header size.shape text piece counts
+  read_alike opening text header size line piece counts is read =
+      let e : read.header ≡ header = read.opening_is.header_is ∙ sym is.header_is in
+      let z : read.size ≡ size = read.opening_is.size_is ∙ sym is.size_is in
+      record {
+        part = read.part;
+        part_is = subst (λ (h : Header). IsPart s h size.shape 1 text read.part) e (subst (λ (z : Size). IsPart s read.header z.shape 1 text read.part) z read.part_is);
+        block_is = read.block_is ∙ ap (λ (z : Size). collected s z.shape read.part.entries) z;
+        lines = read.lines;
+      }
+
+  -- The text that processes read, each its piece, reads as the sum of their pieces.
+  pub text_of_pieces : (n : ℕ) (opening : List ℕ) (header : Header) (size : Size) (line : ℕ) (texts : ℕ → List ℕ) (pieces : ℕ → Sparse) (counts : ℕ → LineCounts) → IsOpening s opening header size line []
+      → ArePiecesOf s n opening texts pieces counts → counted_lines counts 0 n ≡ size.count → Reads s (opening ++ texts_from texts 0 n) (sum_of_pieces s n size.shape pieces)
+  text_of_pieces n opening header size line texts pieces counts is of all =
+      text_of_read header texts opening size line n pieces counts is of.begins of.goes_on (λ r l. read_alike opening (texts r) header size line (pieces r) (counts r) is (of.each r l)) all

@@ -38,6 +38,9 @@ fn read_block<S: Semiring>(
     let Some(opening) = Opening::of::<S>(opening) else {
         return Err(ProcessFault::Text);
     };
+    if !opening.entries.is_empty() {
+        return Err(ProcessFault::Text);
+    }
     let bytes = piece.len().min(usize::MAX - 1);
     let room = room_for_entries(opening.header, opening.size.count, bytes);
     let grid = Grid::single();
@@ -129,9 +132,9 @@ impl<S: Based> Process<S> {
     /// Reads a piece of a text, and begins to bring the entries of all pieces to their owners. [`Process::end`] then keeps this
     /// process's block of the matrix.
     ///
-    /// `opening` is the text as far as the line before the first entry, and `piece` some whole lines after it. Each process of
-    /// the grid reads other lines. The text has no fault if no piece has one, and as many lines of all pieces have an entry as
-    /// are announced.
+    /// `opening` is the text as far as the size line, and nothing more; `piece` is some whole lines after it. Each process of the
+    /// grid reads other lines. If no piece has a fault, and as many lines of all pieces have an entry as are announced, the text
+    /// has no fault, and what is kept is this process's block of its matrix.
     pub fn read(
         &mut self,
         alloc: Global,

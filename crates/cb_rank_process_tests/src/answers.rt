@@ -31,6 +31,19 @@ const C: &[u8] = b"%%MatrixMarket matrix coordinate integer symmetric
 2 2 1
 ";
 
+const D: &[u8] = b"%%MatrixMarket matrix coordinate integer general
+2 2 9
+1 1 1
+1 1 2
+2 2 4
+1 1 8
+2 2 16
+1 1 32
+2 2 64
+1 1 128
+2 2 256
+";
+
 /// The text of an operation's answer. None if there is none.
 fn answer<S: Based>(
     alloc: Global,
@@ -142,6 +155,24 @@ fn a_symmetric_text_without_small_values(rt: HostRuntime) {
             SemiringName::PlusTimes,
             Operation::Prune(Test::Below(5)),
             &[C],
+            wanted
+        )
+    );
+}
+
+#[test]
+fn a_text_of_which_many_processes_read_one_place(rt: HostRuntime) {
+    let wanted: &[u8] = b"%%MatrixMarket matrix coordinate integer general
+2 2 2
+1 1 171
+2 2 340
+";
+    assert!(rt;
+        answers::<PlusTimes>(
+            rt.alloc(),
+            SemiringName::PlusTimes,
+            Operation::Transpose,
+            &[D],
             wanted
         )
     );

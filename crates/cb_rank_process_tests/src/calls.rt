@@ -35,6 +35,27 @@ fn without_a_plan_there_are_no_halves(rt: HostRuntime) {
     assert!(rt; refuses_halves(rt.alloc()) == Some(true));
 }
 
+const BOTH: &[u8] = b"%%MatrixMarket matrix coordinate integer general
+2 2 1
+2 1 7
+";
+
+/// Whether an opening is refused that has no size line, or goes on after it, and then begins nothing.
+fn refuses_openings(alloc: Global) -> Option<bool> {
+    let mut process = process(alloc)?;
+    Some(
+        matches!(process.read(alloc, b"", ENTRY), Err(ProcessFault::Text))
+            && matches!(process.read(alloc, BOTH, b""), Err(ProcessFault::Text))
+            && process.want() == Want::Done
+            && process.read(alloc, OPENING, b"").is_ok(),
+    )
+}
+
+#[test]
+fn an_opening_ends_with_its_size_line(rt: HostRuntime) {
+    assert!(rt; refuses_openings(rt.alloc()) == Some(true));
+}
+
 /// Whether a process with a plan refuses to begin another, and to end this one early.
 fn refuses_another(alloc: Global) -> Option<bool> {
     let mut process = process(alloc)?;

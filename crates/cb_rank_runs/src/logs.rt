@@ -51,12 +51,11 @@ impl<'a, S: Semiring, O: Observer<S>> Log<'a, S, O> {
     {
         let mut logs = Vec::with_capacity(alloc, plan.ranks() as usize)?;
         for rank in 0..plan.ranks() {
-            let room = plan.acts().iter().filter(|act| is_told(act, rank)).count();
             logs.push_reserved(Log {
                 rank,
                 trace,
                 observer,
-                events: Vec::with_capacity(alloc, room)?,
+                events: Vec::with_capacity(alloc, told(plan, rank))?,
                 is_torn: false,
                 of: PhantomData,
             });
@@ -67,12 +66,23 @@ impl<'a, S: Semiring, O: Observer<S>> Log<'a, S, O> {
 
 /// The number of events of a plan's ranks: two for each act, except for work, which has none.
 pub fn events_of(plan: &CheckedPlan) -> usize {
-    let halves = plan
-        .acts()
+    let (acts, _) = plan.stored();
+    let works = acts
         .iter()
-        .filter(|act| !matches!(act, Act::Work { .. }))
+        .filter(|act| matches!(act, Act::Work { .. }))
         .count();
-    2 * halves
+    2 * plan.len().saturating_sub(works)
+}
+
+/// The number of events of a rank. Where all lanes are shut at the end, it is at an end of two for each other rank.
+fn told(plan: &CheckedPlan, rank: u16) -> usize {
+    let (acts, closes) = plan.stored();
+    let told = acts.iter().filter(|act| is_told(act, rank)).count();
+    if closes {
+        told.saturating_add(2 * usize::from(plan.ranks().saturating_sub(1)))
+    } else {
+        told
+    }
 }
 
 /// Whether this act gives the rank an event: the rank is at an end of the act's lane.

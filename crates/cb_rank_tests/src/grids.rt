@@ -1,4 +1,4 @@
-//! Worlds of a product over grids of every side.
+//! Worlds of a product over grids.
 ghost use Rattle.std.specs.Prelude.{◌≤◌};
 
 use crate::events::{ends, letters, stores_of, world};
@@ -9,13 +9,15 @@ use cb_semirings::PlusTimes;
 use std::alloc::Global;
 
 /// The side of a grid, and how many halves and letters the product of two matrices takes on it.
-const SIDES: [(u32, u64, u64); 6] = [
+const SIDES: [(u32, u64, u64); 8] = [
     (1, 4, 0),
     (2, 60, 20),
     (3, 270, 108),
     (4, 784, 336),
     (5, 1800, 800),
     (6, 3564, 1620),
+    (7, 6370, 2940),
+    (8, 10560, 4928),
 ];
 
 /// Whether a world takes this many halves and letters to its end.
@@ -47,7 +49,7 @@ fn finishes(alloc: Global, side: u32, halves: u64, posted: u64) -> Option<bool> 
 }
 
 #[test]
-fn worlds_finish_on_grids_of_every_side(rt: HostRuntime) {
+fn worlds_finish_on_grids(rt: HostRuntime) {
     for (side, halves, posted) in &SIDES {
         assert!(rt;
             finishes(rt.alloc(), *side, *halves, *posted) == Some(true),

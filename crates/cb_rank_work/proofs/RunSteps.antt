@@ -1,5 +1,5 @@
 -- The steps of a plan that runs.
-use Rattle.std.proofs.Common.{◌≡◌, ℕ, ◌+◌, ◌<◌, List, length, get_or, drop, sym, ap, ◌∙◌}
+use Rattle.std.proofs.Common.{◌≡◌, ℕ, ◌+◌, ◌<◌, ◌≤◌, Bool, List, ◌++◌, length, get_or, drop, sym, ap, ◌∙◌}
 use Rattle.std.specs.Prelude.{None}
 use Rattle.cb_semirings.specs.Arithmetic.{Arithmetic}
 use Rattle.cb_matrix.specs.Sparse.{Sparse}
@@ -8,12 +8,15 @@ use Rattle.cb_plan.specs.declared.stores.Slot.{Slot}
 use Rattle.cb_plan.specs.Meaning.{images, act, meaning}
 use Rattle.cb_plan.specs.Algebras.{matrices, shapes}
 use Rattle.cb_plan.specs.Checks.{Lanes, IsSound, fault_from, shut_after}
+use Rattle.cb_plan.specs.Closings.{closings}
 use Rattle.cb_plan.specs.Stores.{state_of, shapes_of, NoneLost}
 use Rattle.cb_plan.specs.PlanTables.{IsTable}
 use Rattle.cb_plan.proofs.CheckSteps.{next_element}
 use Rattle.cb_plan.proofs.Effects.{same_state}
 use Rattle.cb_plan.proofs.PassingActs.{no_fault_next}
 use Rattle.cb_plan.proofs.ShapesOfMeaning.{act_turns, shape_turns}
+use Rattle.cb_plan.proofs.ShutMeaning.{closings_do_nothing}
+use Rattle.cb_plan.proofs.StoredActs.{second_left}
 use Rattle.cb_rank_work.specs.Running.{Runs}
 
 module _ (s : Arithmetic) (ranks : ℕ) (acts : List Act) (i : ℕ) (first now : List (List (Slot Sparse))) (runs : Runs s ranks acts i first now) (a : Act) (l : i < length acts) (e : a ≡ get_or acts i a) where
@@ -36,3 +39,9 @@ module _ (s : Arithmetic) (ranks : ℕ) (acts : List Act) (i : ℕ) (first now :
         no_fault = ap (λ x. fault_from ranks (i + 1) x (shut_after a runs.shut) (drop (i + 1) acts)) shapes_are ∙ next.1;
         means = ap (meaning (matrices s) (drop (i + 1) acts)) is ∙ sym (ap (λ xs. meaning (matrices s) xs (state_of now)) (next_element acts i a l e)) ∙ runs.means;
       }
+
+-- past the acts that are stored the plan has run: what is left changes no slot
+pub has_run : (s : Arithmetic) (ranks : ℕ) (acts stored : List Act) (closes : Bool) (i : ℕ) (first now : List (List (Slot Sparse))) → acts ≡ stored ++ closings ranks closes → length stored ≤ i → i ≤ length stored → Runs s ranks acts i first now → state_of now ≡ meaning (matrices s) acts (state_of first)
+has_run s ranks acts stored closes i first now e l m runs =
+    let left : drop i acts ≡ closings ranks closes = ap (drop i) e ∙ second_left stored (closings ranks closes) i l m in
+    sym (ap (λ xs. meaning (matrices s) xs (state_of now)) left ∙ closings_do_nothing (matrices s) ranks closes (state_of now)) ∙ runs.means

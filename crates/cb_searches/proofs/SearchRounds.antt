@@ -4,13 +4,12 @@ use Rattle.std.specs.Prelude.{All, Contains, ◌==◌}
 use Rattle.std.proofs.lemmas.Bool.{cases_eq, cases_lt, cond-true, cond-false, eq-eqb}
 use Rattle.std.proofs.lemmas.List.{get_or_append_left}
 use Rattle.std.proofs.Math.Seq.{get_or-append_seam}
-use Rattle.std.proofs.lemmas.List.Elements.{All-nil, All-cons, All-append, All-weaker, All-get_or, All-contains, Contains-get_or, Contains-append_left, Contains-append_right}
+use Rattle.std.proofs.lemmas.List.Elements.{All-nil, All-cons, All-append, All-weaker, All-contains, Contains-get_or, Contains-append_left, Contains-append_right}
 use Rattle.cb_semirings.specs.Tables.{or_and}
 use Rattle.cb_matrix.specs.Sparse.{Sparse, IsMatrix, at}
 use Rattle.cb_matrix.specs.Operations.{transposed}
 use Rattle.cb_matrix.proofs.Made.{at-matrix_of, at-outside}
-use Rattle.cb_dcsc.specs.Columns.{in_column, rows_of, columns_with_entries}
-use Rattle.cb_dcsc.proofs.NumbersOfColumns.{columns_inside}
+use Rattle.cb_dcsc.specs.Columns.{in_column, rows_of}
 use Rattle.cb_dcsc.proofs.Lookup.{rows_inside}
 use Rattle.cb_searches.specs.declared.numbers.Numbers.{Numbers}
 use Rattle.cb_searches.specs.Walks.{infinite}

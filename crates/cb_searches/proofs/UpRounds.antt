@@ -1,14 +1,16 @@
 -- A round from the bottom up, column by column, and the queue of the vertices that rounds reached.
-use Rattle.std.proofs.Common.{◌≡◌, ◌≢◌, ℕ, ◌+◌, ◌<◌, ◌≤◌, ◌⊎◌, cond, inl, inr, ⊎_elim, List, [], ◌∷◌, ◌++◌, length, set, subst, sym, refl, ap, ◌∙◌, arith}
+use Rattle.std.proofs.Common.{◌≡◌, ◌≢◌, ℕ, ◌+◌, ◌<◌, ◌≤◌, ◌⊎◌, cond, inl, inr, ⊎_elim, List, [], ◌∷◌, ◌++◌, length, get_or, set, subst, sym, refl, ap, ◌∙◌, arith}
 use Rattle.std.specs.Prelude.{All, Contains, ◌==◌}
-use Rattle.std.proofs.lemmas.Bool.{cases_eq, cond-true, cond-false, eq-eqb}
+use Rattle.std.proofs.lemmas.Bool.{cases_eq, cond-true, cond-false, eq-eqb, eqb-true}
 use Rattle.std.proofs.lemmas.Grind.{get_or-set_at}
 use Rattle.std.proofs.lemmas.List.{get_or_default, get_or-set_other}
-use Rattle.std.proofs.lemmas.List.Elements.{All-push, All-get_or, All-weaker, All-contains}
+use Rattle.std.proofs.lemmas.List.Elements.{All-nil, All-push, All-get_or, All-weaker, All-contains, All-map, All-filter, filter_passes}
 use Rattle.std.specs.declared.alloc.Global.{Global}
 use Rattle.std.specs.declared.vec.Vec.{Vec}
 use Rattle.cb_semirings.specs.Tables.{or_and}
+use Rattle.cb_matrix.specs.declared.Entry.{Entry}
 use Rattle.cb_matrix.specs.Sparse.{Sparse, IsMatrix, at}
+use Rattle.cb_matrix.proofs.Search.{value_at-there}
 use Rattle.cb_dcsc.specs.Columns.{in_column, rows_of}
 use Rattle.cb_searches.specs.declared.numbers.Numbers.{Numbers}
 use Rattle.cb_searches.specs.declared.numbers.Numbers.TheVariants.{Dense}
@@ -91,6 +93,58 @@ module _ (a : Sparse) (k : ℕ) (old : ℕ → ℕ) where
     round_done listed =
         round_made a k old few new so_far.held
         (λ u v edge near. All-contains (λ w. IsNext a k old w → new w ≢ infinite) vs v so_far.all (listed u v edge) (u, edge, near))
+
+-- the place of an entry in a block is an edge
+pub entry_edge : (a : Sparse) → IsMatrix or_and a → (n : ℕ) (d : Entry) → n < length a.entries → at or_and a (get_or a.entries n d).row (get_or a.entries n d).column ≢ 0
+entry_edge a is n d inside none =
+    let e = get_or a.entries n d in
+    All-get_or (λ (f : Entry). f.value ≢ 0) a.entries n d inside is.not_zero (sym (value_at-there 0 a.entries n e.row e.column d is.ascending inside refl refl) ∙ none)
+
+module _ (a : Sparse) (k : ℕ) (old : ℕ → ℕ) where
+  -- After the entries es: the numbers are as above, and each column of es whose row is near has a number.
+  pub record IsRoundThrough (new : ℕ → ℕ) (es : List Entry) : Type 0 where
+    pub held : (v : ℕ) → (new v ≡ old v) ⊎ ((old v ≡ infinite) × (new v ≡ k + 1) × IsNext a k old v)
+    pub all : All (λ e. old e.row ≤ k → new e.column ≢ infinite) es
+
+  module _ (few : k + 1 < infinite) (new : ℕ → ℕ) (es : List Entry) (so_far : IsRoundThrough new es) where
+    no_columns : IsRoundSoFar a k old new []
+    no_columns = record { held = so_far.held; all = All-nil (λ v. IsNext a k old v → new v ≢ infinite) }
+
+    -- the next entry's row is near, and its column gets a number
+    pub entry_set : (e : Entry) (now : ℕ → ℕ) → new e.column ≡ infinite → at or_and a e.row e.column ≢ 0 → new e.row ≤ k → ((w : ℕ) → now w ≡ cond (w == e.column) (k + 1) (new w)) → IsRoundThrough now (es ++ e ∷ [])
+    entry_set e now blank edge near values =
+        let v = e.column in
+        let own : now v ≡ k + 1 = values v ∙ cond-true _ _ _ (eq-eqb v v refl) in
+        record {
+          held = (next_set a k old few new [] no_columns v e.row now blank edge near values).held;
+          all = All-push (λ f. old f.row ≤ k → now f.column ≢ infinite) es e
+              (All-weaker (λ f. old f.row ≤ k → new f.column ≢ infinite) (λ f. old f.row ≤ k → now f.column ≢ infinite)
+              (λ f h l z. ⊎_elim (λ (s : f.column ≡ v). omega (arith, sym (ap now s ∙ own) ∙ z, few)) (λ (n : f.column ≢ v). h l (sym (values f.column ∙ cond-false _ (k + 1) (new f.column) (ne-eqb f.column v n)) ∙ z)) (cases_eq f.column v)) es so_far.all)
+              (λ _ z. omega (arith, sym own ∙ z, few));
+        }
+
+    -- its column has a number
+    pub entry_passed : (e : Entry) → new e.column ≢ infinite → IsRoundThrough new (es ++ e ∷ [])
+    entry_passed e some = record { held = so_far.held; all = All-push (λ f. old f.row ≤ k → new f.column ≢ infinite) es e so_far.all (λ _. some) }
+
+    -- its row is far
+    pub entry_far : (e : Entry) → k < new e.row → IsRoundThrough new (es ++ e ∷ [])
+    entry_far e far = record {
+      held = so_far.held;
+      all = All-push (λ f. old f.row ≤ k → new f.column ≢ infinite) es e so_far.all (λ l. absurd (omega (arith, l, far_before a k old few new [] no_columns e.row far)));
+    }
+
+    -- after all entries of the matrix it is one more round
+    pub entries_done : es ≡ a.entries → IsMatrix or_and a → (source : ℕ) → AreLevelsWithin a source k old → AreLevelsWithin a source (k + 1) new
+    entries_done whole is =
+        let through : All (λ (e : Entry). old e.row ≤ k → new e.column ≢ infinite) a.entries = subst (All (λ (e : Entry). old e.row ≤ k → new e.column ≢ infinite)) whole so_far.all in
+        round_made a k old few new so_far.held
+        (λ u v edge near. All-contains (λ w. old w ≤ k → new v ≢ infinite) (rows_of (in_column v a.entries)) u
+        (All-map (λ w. old w ≤ k → new v ≢ infinite) (λ (e : Entry). e.row) (in_column v a.entries)
+        (λ i d l. let own = filter_passes (λ (e : Entry). e.column == v) a.entries i d l in
+        let here = All-filter (λ (e : Entry). e.column == v) (λ (e : Entry). old e.row ≤ k → new e.column ≢ infinite) a.entries through i d l in
+        λ near z. here near (ap new (eqb-true (get_or (in_column v a.entries) i d).column v own) ∙ z)))
+        (edge_row a is u v edge) near)
 
 -- the queue of the vertices that have level k
 pub reaching_queued : (a : Sparse) (source k : ℕ) (known : Numbers) (q : List ℕ) → AreNumbers a.shape.rows known → AreLevelsWithin a source k (number_at known) → All (λ v. number_at known v ≡ k) q → ((v : ℕ) → number_at known v ≡ k → Contains q v) → IsReaching a source k known q 0

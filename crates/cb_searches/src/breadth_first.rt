@@ -1,12 +1,13 @@
 //! Breadth-first search, in either direction.
 //!
-//! A round gives the next number to each vertex that has none and to which an edge leads from one that has. From the top
-//! down it follows the edges from the vertices that the round before reached. From the bottom up it looks at each vertex
-//! without a number: column v of the block lists where the edges to v come from, and it is read up to the first row that a
-//! round before reached. Each round takes the direction in which it has less to read: up where many vertices were just
-//! reached, so that such a row comes soon, and otherwise down. A round down needs the vertices that the last round reached,
-//! in a queue, to which it appends those that it reaches. Rounds up need the numbers alone: after the last of them the queue
-//! is made from the numbers.
+//! A round gives the next number to each vertex that has none and to which an edge leads from one that has. From the
+//! top down it follows the edges from the vertices that the round before reached. From the bottom up it looks at each
+//! vertex without a number: column v of the block lists where the edges to v come from, and it is read up to the first
+//! row that a round before reached. While few vertices have numbers, it reads the rows of all entries in order instead,
+//! which is faster where nearly all columns would be read to their ends. Each round takes the direction in which it has
+//! less to read: up where many vertices were just reached, so that such a row comes soon, and otherwise down. A round
+//! down needs the vertices that the last round reached, in a queue, to which it appends those that it reaches. Rounds
+//! up need the numbers alone: after the last of them the queue is made from the numbers.
 //!
 //! This is the search of Beamer, Asanović and Patterson, Direction-Optimizing Breadth-First Search (SC 2012).
 ghost use Rattle.std.specs.Prelude.{◌≡◌, ℕ, ◌+◌, ◌<◌, ◌≤◌, [], ◌∷◌, length, slice_index, take, All, Contains, IfNone, IfOk, IfSome, OnOk};
@@ -31,13 +32,16 @@ const ENTRIES_PER_EDGE: usize = 4;
 
 /// The looks for each entry with which rounds up are given up, if the transpose has yet to be made. Those of a round that
 /// [grows fast](grows_fast) don't count.
-const LOOKS_PER_ENTRY: usize = 2;
+const LOOKS_PER_ENTRY: usize = 5;
+
+/// How often each look of a slow round counts: one by entries that reaches at most twice as many vertices as the one before.
+const SLOW_ROUND: usize = 4;
 
 /// The levels of the vertices from a source, in the graph of a square block.
 ///
-/// Rounds go up at first, as the block is. After two looks for each entry in rounds that don't grow fast enough to reach all
-/// vertices in two more, or at once if the numbers aren't in a list, the block is transposed, and the other rounds are made
-/// as [`breadth_first`] does.
+/// Rounds go up at first, as the block is. After five looks for each entry in rounds that don't grow fast enough to reach all
+/// vertices in two more, sooner if they grow slowly, or at once if the numbers aren't in a list, the block is transposed, and
+/// the other rounds are made as [`breadth_first`] does.
 pub(crate) fn level_numbers(
     alloc: Global,
     graph: &Block<OrAnd>,
@@ -66,7 +70,8 @@ pub(crate) fn level_numbers(
     Ok(known)
 }
 
-/// Makes rounds up until one reaches no vertex, or until they are given up. Then it returns how many are made.
+/// Makes rounds up until one reaches no vertex, or until they are given up. Then it returns how many are made. They go by
+/// entries until one grows fast.
 fn rounds_up(list: &mut [u64], graph: &Block<OrAnd>) -> Option<u32>
     requires square { graph.now.shape.rows ≡ graph.now.shape.cols }
     requires length { length list.old ≡ graph.now.shape.rows }
@@ -77,20 +82,34 @@ fn rounds_up(list: &mut [u64], graph: &Block<OrAnd>) -> Option<u32>
     let shape = graph.shape();
     let mut looks_left = graph.len().saturating_mul(LOOKS_PER_ENTRY);
     let mut reached_before = 1;
+    let mut by_entries = true;
     for rounds in 0..shape.rows() {
-        let (reached, looks) = up(list, graph, rounds);
+        let (reached, looks) = round_up(list, graph, rounds, by_entries);
         if reached == 0 {
             return None;
         }
-        if !grows_fast(reached_before, reached, graph.columns()) {
-            if looks_left <= looks {
+        if grows_fast(reached_before, reached, graph.columns()) {
+            by_entries = false;
+        } else {
+            let is_slow = by_entries && reached <= reached_before.saturating_mul(2);
+            let cost = counted(looks, is_slow);
+            if looks_left <= cost {
                 return Some(rounds + 1);
             }
-            looks_left -= looks;
+            looks_left -= cost;
         }
         reached_before = reached;
     }
     Some(shape.rows())
+}
+
+/// How many looks a round counts that made so many.
+fn counted(looks: usize, is_slow: bool) -> usize {
+    if is_slow {
+        looks.saturating_mul(SLOW_ROUND)
+    } else {
+        looks
+    }
 }
 
 /// Whether two more rounds reach this many vertices, if each reaches as many times as many as the one before it as the last
@@ -312,7 +331,49 @@ fn claim(
     Ok(())
 }
 
-/// A round from the bottom up, after so many. Returns how many vertices it reaches, and at how many numbers it looks.
+/// A round from the bottom up, after so many, by entries or by columns. Returns how many vertices it reaches, and at how many
+/// numbers it looks.
+fn round_up(list: &mut [u64], graph: &Block<OrAnd>, rounds: u32, by_entries: bool) -> (usize, usize)
+    requires square { graph.now.shape.rows ≡ graph.now.shape.cols }
+    requires length { length list.old ≡ graph.now.shape.rows }
+    ensures length { length list.new ≡ length list.old }
+    ensures none { result.0 ≡ 0 → list.new ≡ list.old }
+    ensures round { (source : ℕ) → AreLevelsWithin graph.now source rounds (listed_at list.old) → AreLevelsWithin graph.now source (rounds + 1) (listed_at list.new) }
+{
+    if by_entries {
+        up_by_entries(list, graph, rounds)
+    } else {
+        up(list, graph, rounds)
+    }
+}
+
+/// A round from the bottom up, after so many, entry by entry. It looks at the number of each entry's row, in one loop, and
+/// searches for the column only if there is one: faster than by columns as long as few rows have a number.
+fn up_by_entries(list: &mut [u64], graph: &Block<OrAnd>, rounds: u32) -> (usize, usize)
+    requires square { graph.now.shape.rows ≡ graph.now.shape.cols }
+    requires length { length list.old ≡ graph.now.shape.rows }
+    ensures length { length list.new ≡ length list.old }
+    ensures none { result.0 ≡ 0 → list.new ≡ list.old }
+    ensures round { (source : ℕ) → AreLevelsWithin graph.now source rounds (listed_at list.old) → AreLevelsWithin graph.now source (rounds + 1) (listed_at list.new) }
+{
+    let shape = graph.shape();
+    prove_eq!(shape.rows(), shape.cols());
+    let rows = graph.row_numbers();
+    let mut reached = 0;
+    for n in 0..rows.len() {
+        if list[rows[n] as usize] <= u64::from(rounds) {
+            let vertex = graph.entry_at(n).column;
+            if list[vertex as usize] == u64::MAX {
+                list[vertex as usize] = u64::from(rounds) + 1;
+                reached += 1;
+            }
+        }
+    }
+    (reached, rows.len())
+}
+
+/// A round from the bottom up, after so many, column by column. Returns how many vertices it reaches, and at how many
+/// numbers it looks.
 fn up(list: &mut [u64], graph: &Block<OrAnd>, rounds: u32) -> (usize, usize)
     requires square { graph.now.shape.rows ≡ graph.now.shape.cols }
     requires length { length list.old ≡ graph.now.shape.rows }

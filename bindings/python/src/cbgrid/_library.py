@@ -8,7 +8,7 @@ import os
 from ._calls import CALLS
 
 SEMIRING, TEST, MIXED, TOO_LARGE, LENGTHS, ORDER, PLACE, VALUE = 1, 2, 3, 5, 6, 7, 8, 9
-SHAPES, SOURCE, FORMAT, MEMORY = 10, 12, 13, 14
+SHAPES, NOT_SQUARE, SOURCE, FORMAT, MEMORY, NOT_COLUMN = 10, 11, 12, 13, 14, 16
 LIMIT = 2147483647
 ALL = ctypes.c_size_t(-1).value  # in place of the length of a list of rows or columns
 
@@ -101,7 +101,7 @@ class CbgridError(Exception):
     code : int
         The code of cbgrid.h, 1 to 16.
     message : str
-        The code in a few words.
+        The code in a few words; of shapes or semirings that don't fit, also those of the operands.
     line : int or None
         The line of the first fault of a text that can't be read, counted from 1.
     entry : int or None
@@ -128,7 +128,12 @@ class CbgridMemoryError(CbgridError, MemoryError):
     """Memory could not be allocated."""
 
 
+def message_of(code: int) -> str:
+    """A code in a few words."""
+    return library.cbgrid_message(code).decode("ascii")
+
+
 def error(code: int, message: str | None = None, line: int | None = None, entry: int | None = None) -> CbgridError:
     """The exception of a code, with the library's message or a more specific one."""
     kind = CbgridMemoryError if code == MEMORY else CbgridValueError
-    return kind(code, message or library.cbgrid_message(code).decode("ascii"), line, entry)
+    return kind(code, message or message_of(code), line, entry)

@@ -10,8 +10,9 @@ import numpy as np
 import scipy.sparse
 
 from . import _lists
-from ._library import ALL, FORMAT, LENGTHS, LIMIT, ORDER, PLACE, SEMIRING, SHAPES, SOURCE, TEST, TOO_LARGE, VALUE
-from ._library import How, Text, error, library
+from ._library import ALL, FORMAT, LENGTHS, LIMIT, MIXED, NOT_COLUMN, NOT_SQUARE, ORDER, PLACE
+from ._library import SEMIRING, SHAPES, SOURCE, TEST, TOO_LARGE, VALUE
+from ._library import How, Text, error, library, message_of
 
 # The semirings in the order of their numbers.
 _NAMES = (
@@ -86,6 +87,17 @@ def _numbers32(numbers: Any, limit: int, name: str) -> np.ndarray:
         n = int(np.argmax((numbers < 0) | (numbers >= limit)))
         raise error(PLACE, f"{name}: entry {n} is {numbers[n]}, not 0 to {limit - 1}")
     return numbers
+
+
+def _told(code: int, operands: list[Matrix]) -> str | None:
+    """A code in words, with what it is about of the operands: their shapes or their semirings. None for other codes."""
+    if code in (SHAPES, NOT_SQUARE, NOT_COLUMN):
+        about = ["{} by {}".format(*it.shape) for it in operands]
+    elif code == MIXED:
+        about = [it.semiring for it in operands]
+    else:
+        return None
+    return f"{message_of(code)}: {', '.join(about)}"
 
 
 class Matrix:
@@ -650,7 +662,7 @@ class Matrix:
         [[1, 10, 2, 20], [0, 0, 3, 30]]
         """
         operand = self._wanted(other, "other")
-        return self._made(library.cbgrid_matrix_kron, operand._at)
+        return self._made(library.cbgrid_matrix_kron, operand)
 
     def assign(self, row: int, column: int, part: Any) -> Matrix:
         """The matrix with another in place of a part of it. The entries in that part are dropped, also where the other
@@ -684,7 +696,7 @@ class Matrix:
         operand = self._wanted(part, "part")
         if not all(0 <= it <= LIMIT for it in corner):
             raise error(PLACE, f"row, column: a place of the matrix is wanted, not {corner}")
-        return self._made(library.cbgrid_matrix_assign, *corner, operand._at)
+        return self._made(library.cbgrid_matrix_assign, *corner, operand)
 
     def exclude(self, mask: Any) -> Matrix:
         """The entries at the places where a mask has none: a complemented mask.
@@ -712,7 +724,7 @@ class Matrix:
         [[0, 2], [0, 3]]
         """
         operand = self._wanted(mask, "mask")
-        return self._made(library.cbgrid_matrix_exclude, operand._at)
+        return self._made(library.cbgrid_matrix_exclude, operand)
 
     def update(
         self, new: Any, mask: Any = None, complement: bool = False, accumulate: bool = False, replace: bool = False
@@ -754,7 +766,7 @@ class Matrix:
         written = self._wanted(new, "new")
         kept = None if mask is None else self._wanted(mask, "mask")
         flags = bool(accumulate) + 2 * bool(complement) + 4 * bool(replace)
-        return self._made(library.cbgrid_matrix_update, written._at, None if kept is None else kept._at, flags)
+        return self._made(library.cbgrid_matrix_update, written, kept, flags)
 
     def power(self, factors: int) -> Matrix:
         """The power with this many factors, 1 or more, multiplied from the left. `a ** n` is the same.
@@ -817,11 +829,13 @@ class Matrix:
         call = library.cbgrid_matrix_row_degrees if axis else library.cbgrid_matrix_column_degrees
         return self._made(call, number=SEMIRINGS["plus-times"])
 
-    def _made(self, call: Any, *arguments: Any, number: int | None = None, at: Any = None) -> Matrix:
+    def _made(self, call: Any, *arguments: Any, mask: Matrix | None = None, number: int | None = None, at: Any = None) -> Matrix:
+        """What a call makes of this matrix and of the matrices among its arguments. `mask` is one that another argument names."""
         out = _void()
-        code = call(self._at, *arguments, _byref(out))
+        code = call(self._at, *(it._at if isinstance(it, Matrix) else it for it in arguments), _byref(out))
         if code:
-            raise error(code, entry=at.value if at is not None and code == SOURCE else None)
+            operands = [it for it in (self, *arguments, mask) if isinstance(it, Matrix)]
+            raise error(code, _told(code, operands), entry=at.value if at is not None and code == SOURCE else None)
         return Matrix._of(out.value, self._number if number is None else number)
 
     def _operand(self, other: Any) -> Matrix | None:
@@ -834,7 +848,7 @@ class Matrix:
 
     def _pair(self, call: Any, other: Any) -> Any:
         operand = self._operand(other)
-        return NotImplemented if operand is None else self._made(call, operand._at)
+        return NotImplemented if operand is None else self._made(call, operand)
 
     def __matmul__(self, other: Any) -> Any:
         if isinstance(other, np.ndarray) and other.ndim == 1:
@@ -914,7 +928,7 @@ class Matrix:
             raise TypeError("complement: a mask is wanted")
         covered = None if kept is None else kept._at
         how = How(covered, bool(complement), bool(transpose_left), bool(transpose_right), count)
-        return self._made(library.cbgrid_matrix_multiply, operand._at, how)
+        return self._made(library.cbgrid_matrix_multiply, operand, how, mask=kept)
 
     def _wanted(self, other: Any, name: str) -> Matrix:
         operand = self._operand(other)
@@ -942,7 +956,7 @@ class Matrix:
         call = library.cbgrid_matrix_levels_given if is_levels else library.cbgrid_matrix_distances_given
         column = np.zeros(len(vertices), np.uint32)
         given = Matrix.from_triples(vertices, column, numbers, (self.shape[0], 1), "min-plus")
-        rows, _columns, values = self._made(call, given._at, number=1).to_triples()
+        rows, _columns, values = self._made(call, given, number=1).to_triples()
         return rows, values
 
     def parents(self, source: int) -> tuple[np.ndarray, np.ndarray]:

@@ -1,4 +1,5 @@
 use Rattle.std.proofs.Common.{◌≡◌, ◌*◌, ◌<◌, ◌≤◌, refl, ◌∙◌, arith}
+use Rattle.cb_grid.specs.declared.TheConstants.{LARGEST_SIDE}
 use Rattle.cb_plan_parts.specs.Collectives.{shut_acts}
 use Rattle.cb_plan_parts.specs.PlanParts.{operand_starts}
 use Rattle.cb_plan_parts.specs.Growth.{IsWithinLimit}
@@ -13,7 +14,7 @@ use Rattle.cb_plan_summa.proofs.summa.Goals as goal
 whole : (c : After-new-plan) → IsWithinLimit c.new-plan.result (summa_acts c.args.grid.now.side c.args.a c.args.b)
 whole c =
     let q = c.args.grid.now.side in
-    let few : q ≤ 6 = (let a = c.side.ensures.value in let b = c.side.ensures.limit in omega arith) in
+    let few : q ≤ LARGEST_SIDE = (let a = c.side.ensures.value in let b = c.side.ensures.limit in omega arith) in
     let most = summa_at_most q few c.args.a c.args.b in
     within_new (summa_acts q c.args.a c.args.b) c.new-plan.result c.new-plan.ensures.acts (omega arith)
 
@@ -34,7 +35,7 @@ pub finish-requires-clause-flows : goal.finish-requires-clause-flows
 finish-requires-clause-flows c =
     let q = c.args.grid.now.side in
     let pos : 0 < q = (let a = c.side.ensures.value in let b = c.side.ensures.some in omega arith) in
-    let few : q ≤ 6 = (let a = c.side.ensures.value in let b = c.side.ensures.limit in omega arith) in
+    let few : q ≤ LARGEST_SIDE = (let a = c.side.ensures.value in let b = c.side.ensures.limit in omega arith) in
     grown_flows (q * q) (operand_starts q (factors c.args.a c.args.b)) c.in-Ok.starts.items (product_acts q c.args.a c.args.b) c.new-plan.result c.multiply.new.plan
     c.new-plan.ensures.acts c.in_ok-multiply.ensures.acts c.in-Ok.ensures.starts (product_flow q pos few c.args.a c.args.b c.requires)
 

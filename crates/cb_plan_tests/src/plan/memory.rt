@@ -6,7 +6,7 @@ ghost use Rattle.cb_plan.specs.Stores.{sheets_in};
 use crate::plan::{checked, plan_of, row_at_0, small, two_stores};
 use cb_dcsc::Block;
 use cb_matrix::{Entry, Shape};
-use cb_plan::{CheckedPlan, Op, Plan, PlanFaultKind, RankStore, SharedBlock, Slot, Start};
+use cb_plan::{Act, CheckedPlan, Op, Plan, PlanFaultKind, RankStore, SharedBlock, Slot, Start};
 use cb_rank_work::{run_plain, work};
 use cb_samples::{entry, shape};
 use cb_semirings::PlusTimes;
@@ -191,6 +191,27 @@ fn refused_memory_is_answered(rt: HostRuntime) -> Result<(), Fail> {
         assert!(rt; is_checked_or_refused(rt.alloc(), plan, start));
     }
     Ok(())
+}
+
+/// Whether an act that comes after the end of a plan is appended, or memory is refused and the plan is as it was.
+fn grows_past_its_end(plan: &mut Plan, act: Act) -> bool {
+    if plan.shut_all().is_err() {
+        return false;
+    }
+    let count = plan.len();
+    match plan.push(act) {
+        Ok(()) => plan.len() == count.saturating_add(1) && !plan.stored().1,
+        Err(fault) => {
+            plan.len() == count && plan.stored().1 && fault.kind == PlanFaultKind::Memory
+        }
+    }
+}
+
+/// The same for a plan that is at its end.
+#[test]
+fn refused_memory_leaves_the_end_of_a_plan(rt: HostRuntime) {
+    let mut plan = Plan::new(rt.alloc(), 3);
+    assert!(rt; grows_past_its_end(&mut plan, Act::Shut { from: 0, to: 1 }));
 }
 
 /// Whether the small plan runs on its stores and fills one slot of rank 1, or there is no memory.

@@ -1,7 +1,8 @@
-//! The programs of two ranks.
+//! The programs of two ranks, and of three that only shut their lanes.
 use crate::plan::checked;
 use cb_letters::Tag;
-use cb_plan::Half;
+use cb_plan::{CheckedPlan, Half, Plan};
+use std::alloc::Global;
 use std::test::Fail;
 
 /// Whether a program posts slot 0 to rank 1 and then ends both lanes.
@@ -43,4 +44,35 @@ fn each_rank_has_its_halves(rt: HostRuntime) -> Result<(), Fail> {
     assert!(rt; posts(&plan.project(rt.alloc(), 0)?));
     assert!(rt; takes(&plan.project(rt.alloc(), 1)?));
     Ok(())
+}
+
+/// The halves of a rank of three in a plan that only shuts all lanes. None if memory is refused.
+fn shutting(alloc: Global, rank: u16) -> Option<Vec<Half>> {
+    let mut plan = Plan::new(alloc, 3);
+    plan.shut_all().ok()?;
+    let plan = CheckedPlan::check(alloc, plan, &[]).ok()?;
+    if rank < plan.ranks() {
+        plan.project(alloc, rank).ok()
+    } else {
+        None
+    }
+}
+
+/// Whether a program of rank 1 of three ends each lane by sender.
+fn ends_by_sender(program: &[Half]) -> bool {
+    matches!(
+        program,
+        [
+            Half::End { from: 0 },
+            Half::Shut { to: 0 },
+            Half::Shut { to: 2 },
+            Half::End { from: 2 },
+        ]
+    )
+}
+
+#[test]
+fn the_end_of_a_plan_has_its_halves(rt: HostRuntime) {
+    let program = shutting(rt.alloc(), 1);
+    assert!(rt; matches!(&program, Some(halves) if ends_by_sender(halves)));
 }

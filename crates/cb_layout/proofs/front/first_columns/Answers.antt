@@ -19,23 +19,17 @@ loop-i-preserved g c =
     let own : c.column_numbers.result.now ≡ columns_in q bs j i = c.column_numbers.ensures.numbers ∙ ap (λ (b : Sparse). columns_with_entries b.entries) c.block_in-block.ensures in
     let now : c.nth_or_none.result ≡ get_or (columns_in q bs j i) 0 4294967295 = c.nth_or_none.ensures ∙ ap (λ xs. get_or xs 0 4294967295) own in
     let xs = c.loop-i.columns in
-    let six = c.loop-i.invariant.0 in (
-      length-set xs i c.nth_or_none.result ∙ six,
+    let all = c.loop-i.invariant.0 in (
+      length-set xs i c.nth_or_none.result ∙ all,
       (λ k l.
           ⊎_elim
           (λ (p : k ≡ i). ap (λ n. get_or (set xs i c.nth_or_none.result) n 0) p ∙ get_or-set_same xs i c.nth_or_none.result 0 (omega arith) ∙ now ∙ ap (λ n. get_or (columns_in q bs j n) 0 4294967295) (sym p))
           (λ (p : k ≢ i). get_or-set_other xs i k c.nth_or_none.result 0 p ∙ c.loop-i.invariant.1 k (omega arith))
           (cases_eq k i)),
-      (λ k l m. get_or-set_other xs i k c.nth_or_none.result 0 (omega arith) ∙ c.loop-i.invariant.2 k (omega arith) m),
     )
 
 pub returns-clause-next : goal.returns-clause-next
-returns-clause-next g c done zeros =
-    let q = c.args.grid.side in
+returns-clause-next g c done zeros k l =
     let side = c.side-i-end.ensures.value in
     let past = c.loop-i-test.false in
-    let within = c.loop-i.auto.i-end in
-    record {
-      rows = λ k l. c.loop-i.invariant.1 k (omega arith) ∙ ap (λ n. get_or (columns_in q c.args.blocks.now c.args.column k) n 4294967295) (sym (zeros k));
-      others = λ k l m. c.loop-i.invariant.2 k (omega arith) m;
-    }
+    c.loop-i.invariant.1 k (omega arith) ∙ ap (λ n. get_or (columns_in c.args.grid.side c.args.blocks.now c.args.column k) n 4294967295) (sym (zeros k))

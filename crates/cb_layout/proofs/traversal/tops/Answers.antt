@@ -12,8 +12,8 @@ loop-part-preserved c =
     let side = c.side-part-end.ensures.value in
     let limit = c.side-part-end.ensures.limit in
     let test = c.loop-part-test.true in
-    let six = c.loop-part.invariant.0 in (
-      length-set xs i top ∙ six,
+    let all = c.loop-part.invariant.0 in (
+      length-set xs i top ∙ all,
       (λ k l.
           ⊎_elim
           (λ (p : k ≡ i). ap (λ n. get_or (set xs i top) n 0) p ∙ get_or-set_same xs i top 0 (omega arith) ∙ c.range-top.ensures.start ∙ ap (part_start c.args.grid.side c.args.rows) (sym p))

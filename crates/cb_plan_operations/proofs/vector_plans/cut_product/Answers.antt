@@ -9,8 +9,8 @@ use Rattle.cb_plan_operations.proofs.Loops.{next_within, next_grew, works_each}
 use Rattle.cb_plan_operations.proofs.vector_plans.cut_product.Goals as goal
 
 -- the act, by what is known of the range
-same : (q r t rows : ℕ) (range : ℕ × ℕ) → range.0 ≡ part_start q rows t → range.1 ≡ part_start q rows (t + 1) → works r (op_is.Cut 5 range (0, 1) (20 + t) ∷ []) ≡ works r (piece_cut q rows t ∷ [])
-same q r t rows range e f = ap (λ first. works r (op_is.Cut 5 (first, range.1) (0, 1) (20 + t) ∷ [])) e ∙ ap (λ last. works r (op_is.Cut 5 (part_start q rows t, last) (0, 1) (20 + t) ∷ [])) f
+same : (q r t rows : ℕ) (range : ℕ × ℕ) → range.0 ≡ part_start q rows t → range.1 ≡ part_start q rows (t + 1) → works r (op_is.Cut 5 range (0, 1) (80 + t) ∷ []) ≡ works r (piece_cut q rows t ∷ [])
+same q r t rows range e f = ap (λ first. works r (op_is.Cut 5 (first, range.1) (0, 1) (80 + t) ∷ [])) e ∙ ap (λ last. works r (op_is.Cut 5 (part_start q rows t, last) (0, 1) (80 + t) ∷ [])) f
 
 pub work-requires : goal.work-requires
 work-requires c =

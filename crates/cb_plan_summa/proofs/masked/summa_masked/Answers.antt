@@ -1,6 +1,7 @@
 use Rattle.std.proofs.Common.{◌≡◌, ℕ, ◌*◌, ◌<◌, ◌≤◌, ◌++◌, List, refl, ◌∙◌, arith}
 use Rattle.cb_matrix.specs.Sparse.{Extent}
 use Rattle.cb_plan.specs.declared.acts.Act.{Act}
+use Rattle.cb_grid.specs.declared.TheConstants.{LARGEST_SIDE}
 use Rattle.cb_plan_parts.specs.Collectives.{shut_acts}
 use Rattle.cb_plan_parts.specs.PlanParts.{each_rank, operand_starts}
 use Rattle.cb_plan_parts.specs.Growth.{IsWithinLimit, Grew}
@@ -19,7 +20,7 @@ open_acts q a b = product_acts q a b ++ each_rank q mask_op
 whole : (c : After-new-plan) → IsWithinLimit c.new-plan.result (summa_masked_acts c.args.grid.now.side c.args.a c.args.b)
 whole c =
     let q = c.args.grid.now.side in
-    let few : q ≤ 6 = (let a = c.side.ensures.value in let b = c.side.ensures.limit in omega arith) in
+    let few : q ≤ LARGEST_SIDE = (let a = c.side.ensures.value in let b = c.side.ensures.limit in omega arith) in
     let most = summa_masked_at_most q few c.args.a c.args.b in
     within_new (summa_masked_acts q c.args.a c.args.b) c.new-plan.result c.new-plan.ensures.acts (omega arith)
 
@@ -58,7 +59,7 @@ pub finish-requires-clause-flows : goal.finish-requires-clause-flows
 finish-requires-clause-flows c =
     let q = c.args.grid.now.side in
     let pos : 0 < q = (let a = c.side.ensures.value in let b = c.side.ensures.some in omega arith) in
-    let few : q ≤ 6 = (let a = c.side.ensures.value in let b = c.side.ensures.limit in omega arith) in
+    let few : q ≤ LARGEST_SIDE = (let a = c.side.ensures.value in let b = c.side.ensures.limit in omega arith) in
     grown_flows (q * q) (operand_starts q (masked_factors c.args.a c.args.b)) c.in-Ok.starts.items (open_acts q c.args.a c.args.b) c.new-plan.result c.work_everywhere.new.plan
     c.new-plan.ensures.acts (grown (goal.at.finish-requires-clause-flows c).In_ok-work_everywhere) (rw c.with_columns_of.ensures at c.in-Ok.ensures.starts) (masked_flow q pos few c.args.a c.args.b c.requires)
 

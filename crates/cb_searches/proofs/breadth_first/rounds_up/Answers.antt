@@ -8,7 +8,7 @@ pub returns-then-reached-eq0-clause-ended : goal.returns-then-reached-eq0-clause
 returns-then-reached-eq0-clause-ended c source is =
     let a = c.args.graph.now in
     let k = c.loop-rounds.rounds in
-    let new = c.up-reached.new.list in
+    let new = c.round_up-reached.new.list in
     let before = c.loop-rounds.invariant.levels source is in
-    let same : new ≡ c.loop-rounds.list = c.up-reached.ensures.none c.if-reached-eq0.true in
-    ended a source (listed_at new) k (subst (λ (xs : List ℕ). AreLevelsWithin a source k (listed_at xs)) (sym same) before) (c.up-reached.ensures.round source before)
+    let same : new ≡ c.loop-rounds.list = c.round_up-reached.ensures.none c.if-reached-eq0.true in
+    ended a source (listed_at new) k (subst (λ (xs : List ℕ). AreLevelsWithin a source k (listed_at xs)) (sym same) before) (c.round_up-reached.ensures.round source before)

@@ -9,7 +9,7 @@ use Rattle.cb_grid.specs.Parts.{part_start}
 use Rattle.cb_grid.specs.Blocks.{block_at}
 use Rattle.cb_layout.specs.Fronts.{IsLeast, columns_in}
 use Rattle.cb_layout.specs.Segments.{entries_left}
-use Rattle.cb_layout.proofs.Fronts.{least_row, least_known, least_is, are_next}
+use Rattle.cb_layout.proofs.Fronts.{least_known, least_is, are_next}
 use Rattle.cb_layout.proofs.BlockColumns.{column_inside, rows_inside, column_is, some_in}
 use Rattle.cb_layout.proofs.RemainingEntries.{stepped_left}
 use Rattle.cb_layout.proofs.traversal.GridSegments.next_segment.Given as given
@@ -23,7 +23,7 @@ next : (g : given.Over) (c : In-Some g) →
     let f = c.reach.new.front in
     let i = c.in-Some.row in
     let n = get_or f.done i 0 in
-    IsLeast f.columns i c.in-Some.column × (i < q) × (n < length (columns_in q bs f.column i)) × (c.in-Some.column ≡ get_or (columns_in q bs f.column i) n 0)
+    IsLeast q f.columns i c.in-Some.column × (i < q) × (n < length (columns_in q bs f.column i)) × (c.in-Some.column ≡ get_or (columns_in q bs f.column i) n 0)
 next g c =
     let q = c.self.inside.grid.side in
     let shape = c.self.inside.shape in
@@ -32,8 +32,8 @@ next g c =
     let front = c.reach.ensures.front in
     let i = c.in-Some.row in
     let x = c.in-Some.column in
-    let least : IsLeast f.columns i x = rw c.in-Some.is at front.some in
-    (least, least_row q shape bs f front i x least, least_known q shape bs f front i x least, least_is q shape bs f front i x least)
+    let least : IsLeast q f.columns i x = rw c.in-Some.is at front.some in
+    (least, least.row, least_known q shape bs f front i x least, least_is q shape bs f front i x least)
 
 -- the entries of that column
 rows_and_values : (g : given.Over) (c : After-nth_column g) →
@@ -95,16 +95,17 @@ invariant_of-self-2 g c =
       are_blocks = c.self.invariant.are_blocks;
       front = record {
         column = subst (λ j. j < q) (sym step.column) front.column;
+        few = front.few;
         limit = front.limit;
         left = step.left ∙ front.left ∙ ap (part_start q shape.cols) (sym step.column);
-        six_done = ap length step.done ∙ length-set f.done i (get_or f.done i 0 + 1) ∙ front.six_done;
-        six_columns = ap length columns ∙ length-set f.columns i _ ∙ front.six_columns;
+        all_done = ap length step.done ∙ length-set f.done i (get_or f.done i 0 + 1) ∙ front.all_done;
+        all_columns = ap length columns ∙ length-set f.columns i _ ∙ front.all_columns;
         next = are_next q shape c.self.inside.blocks.now f front i c.in-Some.column (next g (goal.at.invariant_of-self-2 g c).In-Some).0 c.step.new.self step.column step.left step.done columns;
         some = step.some;
         none = step.none;
       };
       limit = c.self.invariant.limit;
-      six = c.self.invariant.six;
+      all = c.self.invariant.all;
       begin = c.self.invariant.begin;
     }
 
@@ -126,7 +127,7 @@ returns-clause-some g c =
     let own = rows_and_values g after in
     sym c.self.view_is
     ∙ sym c.reach.ensures.left
-    ∙ stepped_left s laws q shape bs are are.few f front i x next.0 c.step.new.self step.column step.left step.done (stepped g after)
+    ∙ stepped_left s laws q shape bs are f front i x next.0 c.step.new.self step.column step.left step.done (stepped g after)
     ∙ ap (λ (es : List Entry). es ++ entries_left s q shape bs c.step.new.self)
     (sym (column_is s laws q shape bs are i f.column next.1 front.column _ (get_or c.self.inside.tops i 0) (f.left + x) c.nth_column.result.0.now c.nth_column.result.1.now
     (c.self.invariant.begin i next.1) (λ t. front.left t + next.3 t) own.0 own.1))

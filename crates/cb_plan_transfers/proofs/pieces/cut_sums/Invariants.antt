@@ -1,0 +1,8 @@
+use Rattle.std.specs.List.{range_with_len, flat_map}
+use Rattle.cb_plan_parts.specs.Growth.{Grew}
+use Rattle.cb_plan_operations.specs.VectorPlans.{works}
+use Rattle.cb_plan_transfers.specs.Pieces.{sum_cuts}
+use Rattle.cb_plan_transfers.proofs.pieces.cut_sums.Given as goal
+
+abbrev pub invariant-loop-rank : goal.invariant-loop-rank
+invariant-loop-rank l = Grew (flat_map (λ r. works r (sum_cuts l.fn.grid.side l.fn.shape r)) (range_with_len 0 l.rank)) l.fn.plan l.plan

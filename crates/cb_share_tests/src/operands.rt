@@ -1,0 +1,92 @@
+//! Random operands, and how results are compared.
+ghost use Rattle.std.specs.Prelude.{◌≡◌, IfOk};
+
+use cb_dcsc::{Block, BlockFault};
+use cb_matrix::Entry;
+use cb_panels::Panels;
+use cb_samples::{SampleFault, block, entry};
+use cb_semirings::PlusTimes;
+use std::alloc::{AllocError, Global};
+
+pub(crate) type Matrix = Block<PlusTimes>;
+
+/// The next pseudo-random number.
+fn next(number: u32) -> u32 {
+    let number = number ^ number.wrapping_shl(13);
+    let number = number ^ (number >> 17);
+    number ^ number.wrapping_shl(5)
+}
+
+/// Random entries at about one in this many of the places of the first rows and columns.
+pub(crate) fn scattered(
+    alloc: Global,
+    rows: u32,
+    cols: u32,
+    one_in: u32,
+    seed: u32,
+) -> Result<Vec<Entry>, AllocError> {
+    let mut entries = Vec::new(alloc);
+    let mut number = seed;
+    for column in 0..cols {
+        for row in 0..rows {
+            number = next(number);
+            if number % one_in.max(1) == 0 {
+                entries.push(entry(row, column, u64::from(number % 7) + 1))?;
+            }
+        }
+    }
+    Ok(entries)
+}
+
+/// A random matrix with an entry at about one in this many places.
+pub(crate) fn random(
+    alloc: Global,
+    rows: u32,
+    cols: u32,
+    one_in: u32,
+    seed: u32,
+) -> Result<Matrix, SampleFault>
+    ensures { IfOk result (λ m. m.shape ≡ record { rows = rows; cols = cols }) }
+{
+    let entries = scattered(alloc, rows, cols, one_in, seed)?;
+    block(alloc, rows, cols, &entries)
+}
+
+/// However small, at most this many.
+pub(crate) fn panels(most: u32) -> Panels {
+    Panels { most, least: 1 }
+}
+
+/// Whether two matrices are the same.
+pub(crate) fn are_same(left: &Matrix, right: &Matrix) -> bool {
+    if left.shape() != right.shape() || left.len() != right.len() {
+        return false;
+    }
+    for n in 0..left.len() {
+        if n >= right.len() || left.entry_at(n) != right.entry_at(n) {
+            return false;
+        }
+    }
+    true
+}
+
+/// Whether a result is right, or its error is want of memory.
+pub(crate) fn is_right_or_refused(made: Result<bool, SampleFault>) -> bool {
+    match made {
+        Ok(is_right) => is_right,
+        Err(fault) => fault == SampleFault::Block(BlockFault::Memory),
+    }
+}
+
+/// Whether the entries of a matrix are those of two others, one after the other.
+pub(crate) fn are_halves(
+    whole: &Matrix,
+    front: &Matrix,
+    back: &Matrix,
+) -> Result<bool, AllocError> {
+    let wanted = whole.entries()?;
+    let mut found = front.entries()?;
+    let rest = back.entries()?;
+    found.extend_from_slice(&rest)?;
+    Ok(found.as_slice() == wanted.as_slice())
+}

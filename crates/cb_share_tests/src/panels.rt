@@ -1,0 +1,346 @@
+//! Products in panels, beside the product by one thread.
+ghost use Rattle.std.specs.Prelude.{◌≡◌, IfOk, IsTrue, length};
+ghost use Rattle.cb_operations.specs.OperationAnswers as answers;
+ghost use Rattle.cb_operations.specs.Operands.{lent_in};
+
+use crate::operands::{are_same, is_right_or_refused, panels, scattered};
+use cb_dcsc::Block;
+use cb_layout::PanelledMatrix;
+use cb_matrix::{LIMIT, Test};
+use cb_operations::{Diagonal, Function, Operation, Region, Selection};
+use cb_panels::{multiply, multiply_panels, operate, select};
+use cb_samples::{SampleFault, block};
+use cb_selections::SelectionFault;
+use cb_semirings::PlusTimes;
+use std::alloc::{AllocError, Global};
+use std::thread::Threads;
+
+type Panelled = PanelledMatrix<PlusTimes>;
+
+/// Two random factors: the sides (rows, inner side, columns) of the shapes, and of what has entries; and one in how many
+/// places of each has an entry.
+type Factors = ([u32; 3], [u32; 3], [u32; 2]);
+
+/// More panels than columns, columns of many entries, the largest sides, and one column.
+const FACTORS: &[Factors] = &[
+    ([9, 7, 8], [9, 7, 8], [2, 2]),
+    MANY,
+    ([LIMIT, LIMIT, LIMIT], [20, 6, 15], [2, 2]),
+    ONE,
+];
+
+/// The factors of a seed.
+fn factors_of(
+    alloc: Global,
+    factors: &Factors,
+    seed: u32,
+) -> Result<(Block<PlusTimes>, Block<PlusTimes>), SampleFault>
+    ensures { IfOk result (λ made. made.0.shape.cols ≡ made.1.shape.rows) }
+{
+    let ([rows, inner, cols], [rows_used, inner_used, cols_used], [one, two]) = *factors;
+    let left = scattered(alloc, rows_used, inner_used, one, seed)?;
+    let right = scattered(alloc, inner_used, cols_used, two, !seed)?;
+    let left = block(alloc, rows, inner, &left)?;
+    let right = block(alloc, inner, cols, &right)?;
+    Ok((left, right))
+}
+
+/// Whether the product in so many panels is the product by one thread.
+fn is_same<R: Threads + Sync>(
+    rt: &R,
+    alloc: Global,
+    most: u32,
+    left: &Block<PlusTimes>,
+    right: &Block<PlusTimes>,
+) -> Result<bool, AllocError>
+    requires { left.now.shape.cols ≡ right.now.shape.rows }
+{
+    let wanted = cb_product::multiply(alloc, left, right)?;
+    let found = multiply(rt, alloc, panels(most), left, right)?;
+    Ok(are_same(&found, &wanted))
+}
+
+/// Whether it is for factors of a seed.
+fn is_product<R: Threads + Sync>(
+    rt: &R,
+    alloc: Global,
+    most: u32,
+    factors: &Factors,
+    seed: u32,
+) -> Result<bool, SampleFault> {
+    let (left, right) = factors_of(alloc, factors, seed)?;
+    Ok(is_same(rt, alloc, most, &left, &right)?)
+}
+
+/// Whether it is for some seeds and in as many panels as are tried.
+fn are_products<R: Threads + Sync>(rt: &R, alloc: Global, factors: &Factors) -> bool {
+    for seed in 1..8 {
+        for most in [0, 1, 2, 3, 5, 64] {
+            if is_product(rt, alloc, most, factors, seed * 7919) != Ok(true) {
+                return false;
+            }
+        }
+    }
+    true
+}
+
+#[test]
+fn products_in_panels_are_the_same(rt: HostRuntime) {
+    for factors in FACTORS {
+        assert!(&rt; are_products(&rt, rt.alloc(), factors));
+    }
+}
+
+/// How many panels a product has, of at most this many.
+fn panel_count<R: Threads + Sync>(
+    rt: &R,
+    alloc: Global,
+    most: u32,
+    left: &Block<PlusTimes>,
+    right: &Block<PlusTimes>,
+) -> Result<usize, AllocError>
+    requires { left.now.shape.cols ≡ right.now.shape.rows }
+{
+    let made = multiply_panels(rt, alloc, panels(most), left, right)?;
+    Ok(made.panels().1.len() + 1)
+}
+
+/// Whether the product of some factors has this many panels, of at most so many.
+fn has_panels<R: Threads + Sync>(
+    rt: &R,
+    alloc: Global,
+    most: u32,
+    factors: &Factors,
+    wanted: usize,
+) -> Result<bool, SampleFault> {
+    let (left, right) = factors_of(alloc, factors, 7919)?;
+    Ok(panel_count(rt, alloc, most, &left, &right)? == wanted)
+}
+
+const MANY: Factors = ([60, 6, 40], [60, 6, 40], [1, 3]);
+
+const ONE: Factors = ([300, 200, 100], [20, 6, 1], [1, 1]);
+
+const SQUARE: Factors = ([30, 6, 30], [30, 6, 24], [4, 4]);
+
+/// Whether products have as many panels as are asked for, and of one column one.
+fn have_panels<R: Threads + Sync>(rt: &R, alloc: Global) -> bool {
+    for (most, wanted) in [(0, 1), (1, 1), (2, 2), (5, 5)] {
+        let many = has_panels(rt, alloc, most, &MANY, wanted);
+        let one = has_panels(rt, alloc, most, &ONE, 1);
+        if many != Ok(true) || one != Ok(true) {
+            return false;
+        }
+    }
+    true
+}
+
+/// There are as many as are asked for, at least one, unless fewer columns have entries: none is without.
+#[test]
+fn a_product_has_as_many_panels_as_are_asked_for(rt: HostRuntime) {
+    assert!(&rt; have_panels(&rt, rt.alloc()));
+}
+
+/// Passes whichever single allocation is refused (`rt try --test --fail-alloc N`, for each N in turn).
+#[test]
+fn a_refused_product_in_panels_answers_memory(rt: HostRuntime) {
+    let made = is_product(&rt, rt.alloc(), 3, &MANY, 7919);
+    assert!(&rt; is_right_or_refused(made));
+}
+
+/// Whether an operation can be made of these matrices.
+fn can_be_made(operation: Operation, operands: &[&Panelled]) -> bool
+    ensures count { IsTrue result → (length operands.now ≡ answers.operand_count_of operation) }
+    ensures agree { IsTrue result → answers.Agree operation (answers.shapes_in (lent_in operands.now)) }
+{
+    if operands.len() != operation.operand_count() {
+        return false;
+    }
+    let shape = match operands {
+        [a] => operation.shape_of(&[a.shape()]),
+        [a, b] => operation.shape_of(&[a.shape(), b.shape()]),
+        [a, b, mask] => operation.shape_of(&[a.shape(), b.shape(), mask.shape()]),
+        _ => None,
+    };
+    shape.is_some()
+}
+
+/// Whether an operation by so many threads is that by one thread.
+fn is_same_operation<R: Threads + Sync>(
+    rt: &R,
+    alloc: Global,
+    most: u32,
+    operation: Operation,
+    operands: &[&Panelled],
+) -> Result<bool, AllocError> {
+    if !can_be_made(operation, operands) {
+        return Ok(false);
+    }
+    let found = operate(rt, alloc, panels(most), operation, operands)?;
+    let wanted = operate(rt, alloc, panels(1), operation, operands)?;
+    Ok(are_same(&found.into_block()?, &wanted.into_block()?))
+}
+
+/// Whether each of some operations is.
+fn are_same_operations<R: Threads + Sync>(
+    rt: &R,
+    alloc: Global,
+    most: u32,
+    operations: &[Operation],
+    operands: &[&Panelled],
+) -> Result<bool, AllocError> {
+    for operation in operations {
+        if !is_same_operation(rt, alloc, most, *operation, operands)? {
+            return Ok(false);
+        }
+    }
+    Ok(true)
+}
+
+const OF_ONE: &[Operation] = &[
+    Operation::Prune(Test::Below(30)),
+    Operation::ColumnSums,
+    Operation::Transpose,
+];
+
+const OF_TWO: &[Operation] = &[Operation::Add, Operation::Times, Operation::Multiply];
+
+const OF_THREE: &[Operation] = &[Operation::MultiplyMasked];
+
+/// A product of random factors, in so many panels: square, without entries in the last columns.
+fn square<R: Threads + Sync>(
+    rt: &R,
+    alloc: Global,
+    most: u32,
+    seed: u32,
+) -> Result<Panelled, SampleFault> {
+    let (left, right) = factors_of(alloc, &SQUARE, seed)?;
+    Ok(multiply_panels(rt, alloc, panels(most), &left, &right)?)
+}
+
+/// What a selection made, None where it was refused.
+fn unless_refused(
+    made: Result<Panelled, SelectionFault>,
+) -> Result<Option<Block<PlusTimes>>, AllocError> {
+    match made {
+        Ok(made) => Ok(Some(made.into_block()?)),
+        Err(SelectionFault::Memory) => Err(AllocError),
+        Err(SelectionFault::Refused(_refusal)) => Ok(None),
+    }
+}
+
+/// Whether what two selections made, or that they were refused, is the same.
+fn is_same_made(found: Option<Block<PlusTimes>>, wanted: Option<Block<PlusTimes>>) -> bool {
+    match (&found, &wanted) {
+        (Some(found), Some(wanted)) => are_same(found, wanted),
+        (None, None) => true,
+        _ => false,
+    }
+}
+
+/// Whether a selection by so many threads, or its refusal, is that by one thread.
+fn is_same_selection<R: Threads + Sync>(
+    rt: &R,
+    alloc: Global,
+    most: u32,
+    selection: Selection,
+    operands: &[&Panelled],
+) -> Result<bool, AllocError> {
+    if operands.len() != selection.operand_count() {
+        return Ok(false);
+    }
+    let found = unless_refused(select(rt, alloc, panels(most), selection, operands))?;
+    let wanted = unless_refused(select(rt, alloc, panels(1), selection, operands))?;
+    Ok(is_same_made(found, wanted))
+}
+
+/// Whether each of some selections is.
+fn are_same_selections<R: Threads + Sync>(
+    rt: &R,
+    alloc: Global,
+    most: u32,
+    selections: &[Selection],
+    operands: &[&Panelled],
+) -> Result<bool, AllocError> {
+    for selection in selections {
+        if !is_same_selection(rt, alloc, most, *selection, operands)? {
+            return Ok(false);
+        }
+    }
+    Ok(true)
+}
+
+fn from_one() -> [Selection; 5] {
+    [
+        Selection::Select(Region::Lower(Diagonal { row: 0, column: 2 })),
+        Selection::Apply(Function::Sum(5)),
+        Selection::Apply(Function::Column),
+        Selection::Diagonal,
+        Selection::DiagonalMatrix,
+    ]
+}
+
+fn from_two() -> [Selection; 3] {
+    [
+        Selection::Exclude,
+        Selection::Kronecker,
+        Selection::Assign((1, 1)),
+    ]
+}
+
+/// Whether all operations on two matrices by so many threads are those by one thread.
+fn are_operations<R: Threads + Sync>(
+    rt: &R,
+    alloc: Global,
+    most: u32,
+    a: &Panelled,
+    b: &Panelled,
+) -> Result<bool, AllocError> {
+    Ok(
+        are_same_operations(rt, alloc, most, OF_ONE, &[a])?
+            && are_same_operations(rt, alloc, most, OF_ONE, &[b])?
+            && are_same_operations(rt, alloc, most, OF_TWO, &[a, b])?
+            && are_same_operations(rt, alloc, most, OF_THREE, &[a, b, a])?,
+    )
+}
+
+/// Whether all selections from them are.
+fn are_selections<R: Threads + Sync>(
+    rt: &R,
+    alloc: Global,
+    most: u32,
+    a: &Panelled,
+    b: &Panelled,
+) -> Result<bool, AllocError> {
+    let (one, two) = (from_one(), from_two());
+    Ok(
+        are_same_selections(rt, alloc, most, &one, &[a])?
+            && are_same_selections(rt, alloc, most, &one, &[b])?
+            && are_same_selections(rt, alloc, most, &two, &[a, b])?,
+    )
+}
+
+/// Whether all are, of a matrix in one panel and one in three. Two selections are refused: neither is a column, as a diagonal
+/// matrix takes, and neither is a part of the other at row 1 of column 1.
+fn are_the_same<R: Threads + Sync>(rt: &R, alloc: Global, most: u32) -> Result<bool, SampleFault> {
+    let a = square(rt, alloc, 1, 7919)?;
+    let b = square(rt, alloc, 3, 104729)?;
+    Ok(are_operations(rt, alloc, most, &a, &b)? && are_selections(rt, alloc, most, &a, &b)?)
+}
+
+#[test]
+fn operations_and_selections_by_threads_are_the_same(rt: HostRuntime) {
+    for most in [0, 2, 3, 5, 64] {
+        assert!(&rt;
+            are_the_same(&rt, rt.alloc(), most) == Ok(true),
+            "{most} threads"
+        );
+    }
+}
+
+/// Passes whichever single allocation is refused (`rt try --test --fail-alloc N`, for each N in turn).
+#[test]
+fn refused_operations_and_selections_by_threads_answer_memory(rt: HostRuntime) {
+    let made = are_the_same(&rt, rt.alloc(), 3);
+    assert!(&rt; is_right_or_refused(made));
+}
