@@ -112,7 +112,7 @@ fn is_absent(alloc: Global, side: u32, me: u32) -> bool {
 #[test]
 fn a_rank_is_one_of_a_grid(rt: HostRuntime) {
     assert!(rt; is_absent(rt.alloc(), 0, 0));
-    assert!(rt; is_absent(rt.alloc(), 7, 0));
+    assert!(rt; is_absent(rt.alloc(), 65, 0));
     assert!(rt; is_absent(rt.alloc(), 2, 4));
     assert!(rt; !is_absent(rt.alloc(), 2, 3));
 }
