@@ -251,6 +251,7 @@ static void graphs(const char* name, Places edges, bool both) {
     if (!wanted("bfs levels", name) && !wanted("bfs parents", name) && !wanted("shortest paths", name)) return;
     Graph g = graph_of(name, edges);
     M *a = kept(CBGRID_OR_AND, edges), *d = kept(CBGRID_MIN_PLUS, edges);
+    must(cbgrid_matrix_keep_transpose(a)), must(cbgrid_matrix_keep_transpose(d));
     SEARCH("bfs levels", cbgrid_matrix_levels(a, g.source[s], &found[s]), false);
     SEARCH("bfs parents", cbgrid_matrix_parents(a, g.source[s], &found[s]), true);
     SEARCH("shortest paths", cbgrid_matrix_distances(d, g.source[s], &found[s]), false);

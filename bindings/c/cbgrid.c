@@ -207,12 +207,6 @@ int cbgrid_matrix_value(const struct cbgrid_matrix *a, uint32_t row, uint32_t co
     return CBGRID_OK;
 }
 
-int cbgrid_matrix_row_sums(const struct cbgrid_matrix *a, struct cbgrid_matrix **out) {
-    struct owned made = {NULL};
-    if (!a || !out) return CBGRID_NULL_POINTER;
-    return hand(cbgrid_kernel_kept_row_sums((kept){a}, &made), made, out);
-}
-
 int cbgrid_matrix_diagonal(const struct cbgrid_matrix *a, struct cbgrid_matrix **out) {
     struct owned made = {NULL};
     if (!a || !out) return CBGRID_NULL_POINTER;
@@ -232,40 +226,11 @@ int cbgrid_matrix_part(const struct cbgrid_matrix *a, uint32_t row, uint32_t row
     return hand(cbgrid_kernel_kept_part((kept){a}, row, row_end, column, column_end, &made), made, out);
 }
 
-int cbgrid_matrix_extract(const struct cbgrid_matrix *a, const uint32_t *rows, size_t row_count,
-                          const uint32_t *columns, size_t column_count, uint64_t *at, struct cbgrid_matrix **out) {
-    struct owned made = {NULL};
-    bool all_rows = row_count == CBGRID_ALL, all_columns = column_count == CBGRID_ALL;
-    if (all_rows) row_count = 0;
-    if (all_columns) column_count = 0;
-    if (!a || !out || (row_count && !rows) || (column_count && !columns)) return CBGRID_NULL_POINTER;
-    if (!row_count) rows = NOTHING32;
-    if (!column_count) columns = NOTHING32;
-    uint32_t code = cbgrid_kernel_kept_extract((kept){a}, all_rows, rows, row_count, all_columns, columns, column_count, &made);
-    if (at && is_of_one(code)) {
-        *at = cbgrid_kernel_first_outside(rows, row_count, cbgrid_matrix_nrows(a));
-        if (*at == row_count) *at += cbgrid_kernel_first_outside(columns, column_count, cbgrid_matrix_ncols(a));
-    }
-    return hand(code, made, out);
-}
-
-int cbgrid_matrix_kron(const struct cbgrid_matrix *a, const struct cbgrid_matrix *b, struct cbgrid_matrix **out) {
-    struct owned made = {NULL};
-    if (!a || !b || !out) return CBGRID_NULL_POINTER;
-    return hand(cbgrid_kernel_kept_kronecker((kept){a}, (kept){b}, &made), made, out);
-}
-
 int cbgrid_matrix_assign(const struct cbgrid_matrix *a, uint32_t row, uint32_t column,
                          const struct cbgrid_matrix *part, struct cbgrid_matrix **out) {
     struct owned made = {NULL};
     if (!a || !part || !out) return CBGRID_NULL_POINTER;
     return hand(cbgrid_kernel_kept_assign((kept){a}, row, column, (kept){part}, &made), made, out);
-}
-
-int cbgrid_matrix_power(const struct cbgrid_matrix *a, uint32_t factors, struct cbgrid_matrix **out) {
-    struct owned made = {NULL};
-    if (!a || !out) return CBGRID_NULL_POINTER;
-    return hand(cbgrid_kernel_kept_power((kept){a}, factors, &made), made, out);
 }
 
 /* The numbers of tasks on graphs, as crates/cb_kept has them. */
@@ -303,10 +268,11 @@ int cbgrid_matrix_column_degrees(const struct cbgrid_matrix *a, struct cbgrid_ma
     return compute(COLUMN_DEGREES, a, 0, a, out);
 }
 
-int cbgrid_matrix_reduce_all(const struct cbgrid_matrix *a, uint64_t *out) {
-    if (!a || !out) return CBGRID_NULL_POINTER;
-    *out = cbgrid_kernel_kept_total((kept){a});
-    return CBGRID_OK;
+/* The library takes the matrix, and hands it out again at the same pointer. */
+int cbgrid_matrix_keep_transpose(struct cbgrid_matrix *a) {
+    struct owned same = {NULL};
+    if (!a) return CBGRID_NULL_POINTER;
+    return (int)cbgrid_kernel_keep_transpose((struct owned){a}, &same);
 }
 
 int cbgrid_matrix_levels(const struct cbgrid_matrix *a, uint32_t source, struct cbgrid_matrix **out) {
@@ -379,6 +345,8 @@ void cbgrid_matrix_free(struct cbgrid_matrix *a) {
 /*
  * ---- Calls that several threads share. For each the library has three calls: one that does it all, one that parts the columns of
  * the result, and one that makes the columns of a range, which it then puts beside one another. Here they are given to threads.
+ * Where the result is a sum over the columns of the first operand, the third one makes a share of the sum of a range of these
+ * columns, and the shares are added up.
  */
 
 /* How many threads a call uses. */
@@ -388,22 +356,28 @@ void cbgrid_threads(uint32_t count) {
     thread_count = count < 1 ? 1 : count < CBGRID_MOST_THREADS ? count : CBGRID_MOST_THREADS;
 }
 
-/* A call: its operands, what else it takes, and the three of the library. */
+/* A call: its operands, what else it takes, and the three of the library; the last makes columns, or a share of a sum. */
 struct call {
     kept a, b, mask;
     uint32_t choice; /* a test, a region, a function or flags */
     uint64_t number;
     uint32_t row, column;
+    const uint32_t *rows, *columns_by; /* lists of numbers, unless all are meant */
+    size_t row_count, column_count;
+    uint32_t all_rows, all_columns;
     uint32_t (*whole)(const struct call *it, struct owned *made);
     uint32_t (*ends)(const struct call *it, uint32_t *ends, size_t count);
     uint32_t (*columns)(const struct call *it, uint32_t first, uint32_t end, struct owned *made);
+    uint32_t (*share)(const struct call *it, uint32_t first, uint32_t end, struct slice64 *made);
 };
 
-/* The columns from `first` up to `end` of the result of a call. */
+/* The columns from `first` up to `end` of the result of a call, or the share of a sum over these columns. */
 struct range {
     const struct call *call;
     uint32_t first, end, code;
     struct owned made;
+    struct slice64 share;
+    uint64_t total;
 };
 
 static void make_columns(void *ranges, size_t n) {
@@ -443,6 +417,58 @@ static uint32_t join_ranges(struct range *ranges, size_t count, struct owned *ou
     return code;
 }
 
+static void make_share(void *ranges, size_t n) {
+    struct range *it = (struct range *)ranges + n;
+    it->share = (struct slice64){&nothing, 0};
+    it->code = it->call->share(it->call, it->first, it->end, &it->share);
+}
+
+static void add_up(void *ranges, size_t n) {
+    struct range *it = (struct range *)ranges + n;
+    it->total = cbgrid_kernel_kept_total_share(it->call->a, it->first, it->end);
+}
+
+/* Parts the columns of the first operand into ranges of about as many entries, at least two. Each adds up at least so many values,
+ * and more than one for each number of the sum: otherwise adding up the shares would take as long as making them. Returns how
+ * many there are, or 0 if one thread is to do it all. */
+static size_t ranges_of_sum(const struct call *it, uint64_t numbers, uint64_t least, size_t threads, struct range *ranges) {
+    uint32_t ends[CBGRID_MOST_THREADS];
+    uint64_t added = cbgrid_matrix_entries(it->a.at), columns = cbgrid_matrix_ncols(it->a.at);
+    /* A vector has a part of the columns, at most all of them. */
+    if (it->b.at && columns) added = (uint64_t)((double)added * (double)cbgrid_matrix_entries(it->b.at) / (double)columns);
+    uint64_t most = added / (numbers > least ? numbers : least);
+    size_t count = threads < most ? threads : (size_t)most;
+    if (count < 2 || cbgrid_kernel_kept_entry_ends(it->a, it->a, ends, count)) return 0;
+    size_t used = ranges_of(it, ends, count, ranges);
+    return used < 2 ? 0 : used;
+}
+
+/* Adds the shares of all ranges to that of the first, in order, and makes the column of the sum. Frees all of them. */
+static uint32_t add_ranges(struct range *ranges, size_t count, struct owned *out) {
+    uint32_t code = CBGRID_OK;
+    kept a = ranges->call->a;
+    struct slice64 sum = ranges->share;
+    for (size_t n = 0; n < count && !code; n++) code = ranges[n].code;
+    for (size_t n = 1; n < count && !code; n++) {
+        code = cbgrid_kernel_kept_add_share(a, (uint64_t *)sum.at, sum.len, ranges[n].share.at, ranges[n].share.len);
+    }
+    if (!code) code = cbgrid_kernel_kept_column_of_sums(a, sum.at, sum.len, out);
+    for (size_t n = 0; n < count; n++) give_back(ranges[n].share.at, ranges[n].share.len);
+    return code;
+}
+
+/* The fewest entries of a sum over columns that are worth a thread. */
+#define LEAST_ADDED 32768u
+
+/* A column that is a sum over the columns of the first operand, with a number for each of its rows. */
+static uint32_t by_shares(const struct call *it, size_t threads, struct owned *made) {
+    struct range ranges[CBGRID_MOST_THREADS];
+    size_t used = ranges_of_sum(it, cbgrid_matrix_nrows(it->a.at), LEAST_ADDED, threads, ranges);
+    if (!used) return it->whole(it, made);
+    share_out(make_share, ranges, used);
+    return add_ranges(ranges, used, made);
+}
+
 /* If the columns can't be parted, one thread does it all: it finds the faults in their order. So it does if they are too few; if
  * the last operand that isn't a mask is one column, it isn't even asked where they part. */
 static uint32_t by_threads(const struct call *it, uint32_t threads, struct owned *made) {
@@ -450,6 +476,7 @@ static uint32_t by_threads(const struct call *it, uint32_t threads, struct owned
     uint32_t ends[CBGRID_MOST_THREADS];
     size_t count = threads < CBGRID_MOST_THREADS ? threads : CBGRID_MOST_THREADS;
     uint32_t columns = cbgrid_matrix_ncols(it->b.at ? it->b.at : it->a.at);
+    if (columns == 1 && it->share) return by_shares(it, count, made);
     if (count < 2 || columns < 2 || it->ends(it, ends, count)) return it->whole(it, made);
     size_t used = ranges_of(it, ends, count, ranges);
     if (used < 2) return it->whole(it, made);
@@ -597,6 +624,76 @@ int cbgrid_matrix_update(const struct cbgrid_matrix *a, const struct cbgrid_matr
     return hand(by_threads(&it, thread_count, &made), made, out);
 }
 
+/* The entries that are worth a thread. */
+#define LEAST_ENTRIES 32768u
+
+static uint32_t extracted(const struct call *it, struct owned *made) {
+    return cbgrid_kernel_kept_extract(it->a, it->all_rows, it->rows, it->row_count, it->all_columns, it->columns_by,
+                                      it->column_count, made);
+}
+static uint32_t extracted_columns(const struct call *it, uint32_t first, uint32_t end, struct owned *made) {
+    return cbgrid_kernel_kept_extract_columns(it->a, it->all_rows, it->rows, it->row_count, it->all_columns, it->columns_by,
+                                              it->column_count, first, end, made);
+}
+
+/* The ranges of rows and columns by their numbers have as many numbers of columns. A column has as many entries as the others. */
+static uint32_t ends_by_numbers(const struct call *it, uint32_t *ends, size_t count) {
+    if (it->all_columns) return ends_by_entries(it, ends, count);
+    size_t numbers = it->column_count;
+    if (numbers > CBGRID_LIMIT) return 1;
+    uint64_t used = numbers * (1 + cbgrid_matrix_entries(it->a.at) / cbgrid_matrix_ncols(it->a.at)) / LEAST_ENTRIES;
+    if (used > count) used = count;
+    if (used < 2) return 1;
+    for (size_t n = 0; n < count; n++) ends[n] = (uint32_t)(n + 1 < used ? numbers * (n + 1) / used : numbers);
+    return 0;
+}
+
+int cbgrid_matrix_extract(const struct cbgrid_matrix *a, const uint32_t *rows, size_t row_count,
+                          const uint32_t *columns, size_t column_count, uint64_t *at, struct cbgrid_matrix **out) {
+    struct owned made = {NULL};
+    bool all_rows = row_count == CBGRID_ALL, all_columns = column_count == CBGRID_ALL;
+    if (all_rows) row_count = 0;
+    if (all_columns) column_count = 0;
+    if (!a || !out || (row_count && !rows) || (column_count && !columns)) return CBGRID_NULL_POINTER;
+    if (!row_count) rows = NOTHING32;
+    if (!column_count) columns = NOTHING32;
+    struct call it = {.a = {a}, .rows = rows, .columns_by = columns, .row_count = row_count, .column_count = column_count,
+                      .all_rows = all_rows, .all_columns = all_columns,
+                      .whole = extracted, .ends = ends_by_numbers, .columns = extracted_columns};
+    uint32_t code = by_threads(&it, thread_count, &made);
+    if (at && is_of_one(code)) {
+        *at = cbgrid_kernel_first_outside(rows, row_count, cbgrid_matrix_nrows(a));
+        if (*at == row_count) *at += cbgrid_kernel_first_outside(columns, column_count, cbgrid_matrix_ncols(a));
+    }
+    return hand(code, made, out);
+}
+
+static uint32_t kronecker(const struct call *it, struct owned *made) {
+    return cbgrid_kernel_kept_kronecker(it->a, it->b, made);
+}
+static uint32_t kronecker_columns(const struct call *it, uint32_t first, uint32_t end, struct owned *made) {
+    return cbgrid_kernel_kept_kronecker_columns(it->a, it->b, first, end, made);
+}
+
+/* The ranges of a Kronecker product are made of as many columns of a. */
+static uint32_t ends_by_outer(const struct call *it, uint32_t *ends, size_t count) {
+    uint64_t outer = cbgrid_matrix_ncols(it->a.at), inner = cbgrid_matrix_ncols(it->b.at);
+    uint64_t in_a = cbgrid_matrix_entries(it->a.at), in_b = cbgrid_matrix_entries(it->b.at);
+    uint64_t used = in_b < LEAST_ENTRIES ? in_a * in_b / LEAST_ENTRIES : in_a;
+    if (used > count) used = count;
+    if (used > outer) used = outer;
+    if (used < 2 || outer * inner > CBGRID_LIMIT) return 1;
+    for (size_t n = 0; n < count; n++) ends[n] = (uint32_t)((n + 1 < used ? outer * (n + 1) / used : outer) * inner);
+    return 0;
+}
+
+int cbgrid_matrix_kron(const struct cbgrid_matrix *a, const struct cbgrid_matrix *b, struct cbgrid_matrix **out) {
+    struct call it = {.a = {a}, .b = {b}, .whole = kronecker, .ends = ends_by_outer, .columns = kronecker_columns};
+    struct owned made = {NULL};
+    if (!a || !b || !out) return CBGRID_NULL_POINTER;
+    return hand(by_threads(&it, thread_count, &made), made, out);
+}
+
 /* A sum takes less time than a thread takes to wake, unless there are many. */
 #define LEAST_SUMMED 65536u
 
@@ -620,6 +717,35 @@ int cbgrid_matrix_column_sums(const struct cbgrid_matrix *a, struct cbgrid_matri
     return hand(by_threads(&it, thread_count, &made), made, out);
 }
 
+static uint32_t row_sums(const struct call *it, struct owned *made) {
+    return cbgrid_kernel_kept_row_sums(it->a, made);
+}
+static uint32_t row_sums_share(const struct call *it, uint32_t first, uint32_t end, struct slice64 *made) {
+    return cbgrid_kernel_kept_row_sums_share(it->a, first, end, made);
+}
+
+int cbgrid_matrix_row_sums(const struct cbgrid_matrix *a, struct cbgrid_matrix **out) {
+    struct call it = {.a = {a}, .whole = row_sums, .share = row_sums_share};
+    struct owned made = {NULL};
+    if (!a || !out) return CBGRID_NULL_POINTER;
+    return hand(by_shares(&it, thread_count, &made), made, out);
+}
+
+int cbgrid_matrix_reduce_all(const struct cbgrid_matrix *a, uint64_t *out) {
+    struct call it = {.a = {a}};
+    struct range ranges[CBGRID_MOST_THREADS];
+    if (!a || !out) return CBGRID_NULL_POINTER;
+    size_t used = ranges_of_sum(&it, 1, LEAST_SUMMED, thread_count, ranges);
+    if (!used) return *out = cbgrid_kernel_kept_total(it.a), CBGRID_OK;
+    share_out(add_up, ranges, used);
+    uint32_t code = CBGRID_OK;
+    for (size_t n = 1; n < used && !code; n++) {
+        code = cbgrid_kernel_kept_add_share(it.a, &ranges[0].total, 1, &ranges[n].total, 1);
+    }
+    if (!code) *out = ranges[0].total;
+    return (int)code;
+}
+
 /* ---- Products: the ranges of their columns take about as many products of two values. */
 static uint32_t ends_by_products(const struct call *it, uint32_t *ends, size_t count) {
     return cbgrid_kernel_kept_ends(it->a, it->b, ends, count);
@@ -632,6 +758,11 @@ static uint32_t product(const struct call *it, struct owned *made) {
 }
 static uint32_t product_columns(const struct call *it, uint32_t first, uint32_t end, struct owned *made) {
     return cbgrid_kernel_kept_panel(it->a, it->b, first, end, made);
+}
+
+/* A product with one column is a sum over the columns of the first factor. */
+static uint32_t product_share(const struct call *it, uint32_t first, uint32_t end, struct slice64 *made) {
+    return cbgrid_kernel_kept_vector_share(it->a, it->b, first, end, made);
 }
 
 static uint32_t product_under(const struct call *it, struct owned *made) {
@@ -651,7 +782,7 @@ static uint32_t product_outside_columns(const struct call *it, uint32_t first, u
 /* The product that is asked for, of factors that aren't transposed. */
 static struct call product_of(const struct cbgrid_matrix *a, const struct cbgrid_matrix *b, const struct cbgrid_how *how) {
     struct call it = {.a = {a}, .b = {b}, .mask = {how->mask}, .ends = ends_by_products};
-    if (!how->mask) it.whole = product, it.columns = product_columns;
+    if (!how->mask) it.whole = product, it.columns = product_columns, it.share = product_share;
     else if (!how->complement) it.whole = product_under, it.columns = product_under_columns;
     else it.whole = product_outside, it.columns = product_outside_columns;
     return it;
@@ -695,6 +826,29 @@ int cbgrid_matrix_multiply(const struct cbgrid_matrix *a, const struct cbgrid_ma
     struct owned made = {NULL};
     int is_transposed = how->transpose_a || how->transpose_b;
     return hand(is_transposed ? of_transposed(it, how, threads, &made) : by_threads(&it, threads, &made), made, out);
+}
+
+/* A power by threads: they share each product. These are made in the order that the library makes them in: the product so far, times
+ * the matrix. */
+static uint32_t power_by_threads(kept a, uint32_t factors, uint32_t threads, struct owned *made) {
+    struct call it = {.a = a, .b = a, .whole = product, .ends = ends_by_products, .columns = product_columns};
+    uint32_t code = by_threads(&it, threads, made);
+    for (uint32_t n = 2; n < factors && !code; n++) {
+        struct owned before = *made;
+        it.a.at = before.at;
+        code = by_threads(&it, threads, made);
+        cbgrid_matrix_free(before.at);
+    }
+    return code;
+}
+
+int cbgrid_matrix_power(const struct cbgrid_matrix *a, uint32_t factors, struct cbgrid_matrix **out) {
+    struct owned made = {NULL};
+    if (!a || !out) return CBGRID_NULL_POINTER;
+    uint32_t threads = thread_count;
+    int is_alone = threads < 2 || factors < 2 || cbgrid_matrix_nrows(a) != cbgrid_matrix_ncols(a);
+    if (is_alone) return hand(cbgrid_kernel_kept_power((kept){a}, factors, &made), made, out);
+    return hand(power_by_threads((kept){a}, factors, threads, &made), made, out);
 }
 
 const char *cbgrid_version(void) {

@@ -38,15 +38,16 @@
  * passed for several operands.
  *
  * Threads. Any number of threads may call any function at once, also on the same matrices, as long as no thread writes to
- * lists or structs that a running call reads. Free a matrix only when no running call uses it. A call runs on the caller's
- * thread alone, unless cbgrid_threads or a struct cbgrid_how asks for more. Don't call a function from a signal handler.
+ * lists or structs that a running call reads. Free a matrix, or keep its transpose, only when no running call uses it. A call
+ * runs on the caller's thread alone, unless cbgrid_threads or a struct cbgrid_how asks for more. Don't call a function from a
+ * signal handler.
  *
  * What is proved. For every input, each call is proved to stay within the lists that you pass, to terminate, and to
  * give exactly the result that its comment describes. The proofs run whenever libcb_ffi.a is built (docs/PROMISES.md).
  * Not proved are this header and cbgrid.c (null pointers, messages, freeing; that compressed rows are the compressed
  * columns of the transpose; the triples of a matrix; which place stands for a diagonal; which of the proved products a
- * struct cbgrid_how asks for; that threads make each range of columns once, and that all are put side by side in order), the C
- * compiler, malloc and POSIX threads.
+ * struct cbgrid_how asks for; that threads make each range of columns once, and that all are put side by side, or added up, in
+ * order), the C compiler, malloc and POSIX threads.
  *
  * What the library relies on. Pointers are aligned for their type and lead to as many elements as the length says.
  * Nobody changes these elements while a call runs. Matrices haven't been freed.
@@ -75,9 +76,9 @@ extern "C" {
 #define CBGRID_MOST_THREADS 256u
 
 /* Sets how many threads each call may use from now on, the caller's among them: at first 1, at most CBGRID_MOST_THREADS; 0 is
- * 1. Products, sums and products element-wise, prunes, column sums, transposes, cbgrid_matrix_select, _apply, _exclude and
- * _update use them, as far as each thread gets enough to do; the others use the caller's. The library starts threads when it first
- * needs them, and they sleep between calls. */
+ * 1. Products, powers, Kronecker products, sums and products element-wise, prunes, sums of rows, of columns and of all values,
+ * transposes, cbgrid_matrix_select, _apply, _extract, _exclude and _update use them, as far as each thread gets enough to do; the
+ * others use the caller's. The library starts threads when it first needs them, and they sleep between calls. */
 void cbgrid_threads(uint32_t count);
 
 /*
@@ -322,6 +323,10 @@ struct cbgrid_how {
  * spares, and about 65536 or more: a small product takes fewer threads. The caller's thread also does what no new thread can
  * be started for. Besides the products, several threads cost a pass over the entries of b, and an index of the columns of a for
  * each. The columns that each thread made stay where they are: a call that needs such a matrix in one piece copies it.
+ *
+ * If b has one column, and there is no mask, each thread multiplies some columns of a instead, and their results are added up. Each
+ * gets about as many entries of a, 32768 or more, and more than one for each row; it costs a list with a number for each row, and
+ * a copy of its columns if a is in several pieces.
  */
 int cbgrid_matrix_multiply(const struct cbgrid_matrix *a, const struct cbgrid_matrix *b, const struct cbgrid_how *how,
                            struct cbgrid_matrix **out);
@@ -330,7 +335,8 @@ int cbgrid_matrix_multiply(const struct cbgrid_matrix *a, const struct cbgrid_ma
 int cbgrid_matrix_transpose(const struct cbgrid_matrix *a, struct cbgrid_matrix **out);
 
 /* Adds up each row of a. The result is one column with as many rows as a. A sum that is zero isn't stored. Costs a
- * walk over the entries and the rows, or a transpose of a if it has more than four rows for each entry. */
+ * walk over the entries and the rows, or a transpose of a if it has more than four rows for each entry. Each of several threads
+ * adds up some columns, as in a product with one column. */
 int cbgrid_matrix_row_sums(const struct cbgrid_matrix *a, struct cbgrid_matrix **out);
 
 /* Adds up each column of a. The result is one row with as many columns as a. A sum that is zero isn't stored. Costs a walk
@@ -338,7 +344,7 @@ int cbgrid_matrix_row_sums(const struct cbgrid_matrix *a, struct cbgrid_matrix *
 int cbgrid_matrix_column_sums(const struct cbgrid_matrix *a, struct cbgrid_matrix **out);
 
 /* Writes the semiring's sum of all values of a to `out`: its zero if a has no entries. Costs a walk over the values,
- * and takes no memory. */
+ * and needs no memory. Each of several threads adds up some columns. */
 int cbgrid_matrix_reduce_all(const struct cbgrid_matrix *a, uint64_t *out);
 
 /* Adds two matrices element-wise: a place that only one of them stores keeps its value. CBGRID_SHAPES if their shapes
@@ -387,12 +393,13 @@ int cbgrid_matrix_part(const struct cbgrid_matrix *a, uint32_t row, uint32_t row
  * the first one is, n for rows[n], or row_count + n for columns[n] (n if it has all rows). A list of length 0, or of all, may be a
  * null pointer. Costs a binary search for each column, the elements of `rows`, and the entries of these columns. If the rows
  * don't ascend, or if a has more than four rows for each of them and for each of these entries, it also costs a binary search
- * for each row, and two transposes. */
+ * for each row, and two transposes. Each of several threads makes as many columns, and reads both lists. */
 int cbgrid_matrix_extract(const struct cbgrid_matrix *a, const uint32_t *rows, size_t row_count,
                           const uint32_t *columns, size_t column_count, uint64_t *at, struct cbgrid_matrix **out);
 
 /* Makes the Kronecker product: each value of a is replaced by its products with all of b. CBGRID_TOO_LARGE if the result has
- * more than CBGRID_LIMIT rows or columns. Costs the entries of a times those of b. */
+ * more than CBGRID_LIMIT rows or columns. Costs the entries of a times those of b. Each of several threads makes the columns of as
+ * many columns of a. */
 int cbgrid_matrix_kron(const struct cbgrid_matrix *a, const struct cbgrid_matrix *b, struct cbgrid_matrix **out);
 
 /* Makes a copy of a in which `part` replaces the part of its shape that begins at (row, column). All entries of a in
@@ -424,7 +431,7 @@ int cbgrid_matrix_update(const struct cbgrid_matrix *a, const struct cbgrid_matr
 
 /* Makes the power of a with this many factors, multiplied from the left: ((a a) a) a and so on. (In some semirings the
  * product isn't associative.) CBGRID_TEST if there are no factors, then CBGRID_NOT_SQUARE. Costs one product less than
- * there are factors. */
+ * there are factors. Several threads share each product. */
 int cbgrid_matrix_power(const struct cbgrid_matrix *a, uint32_t factors, struct cbgrid_matrix **out);
 
 /* Count the entries of each row, and of each column, whatever the values are. The result is one column over PLUS_TIMES,
@@ -434,6 +441,11 @@ int cbgrid_matrix_power(const struct cbgrid_matrix *a, uint32_t factors, struct 
  * entries. */
 int cbgrid_matrix_row_degrees(const struct cbgrid_matrix *a, struct cbgrid_matrix **out);
 int cbgrid_matrix_column_degrees(const struct cbgrid_matrix *a, struct cbgrid_matrix **out);
+
+/* Keeps the transpose of a beside it. Searches from sources (levels, distances, parents) then don't make their own, so only the
+ * first in a graph pays for it. Takes as much memory as a, until a is freed; if that is refused, a is as it was. No other call may
+ * use a at the same time. */
+int cbgrid_matrix_keep_transpose(struct cbgrid_matrix *a);
 
 /*
  * Breadth-first search: finds the least number of edges from the source to each vertex of a graph over OR_AND. An entry at row
@@ -447,7 +459,7 @@ int cbgrid_matrix_levels(const struct cbgrid_matrix *a, uint32_t source, struct 
 /*
  * Shortest paths: finds the least sum of edge lengths from the source to each vertex of a graph over MIN_PLUS. The value of an
  * entry is the length of its edge. The codes are those of cbgrid_matrix_levels. A vertex at a distance of 2^64 - 1 or more has
- * no entry. Costs a transpose of a, then at most 16 rounds over the edges of the vertices whose distance fell, and for the
+ * no entry. Costs a transpose of a, unless that is kept, then at most 16 rounds over the edges of the vertices whose distance fell, and for the
  * rest Dijkstra's algorithm with a heap.
  */
 int cbgrid_matrix_distances(const struct cbgrid_matrix *a, uint32_t source, struct cbgrid_matrix **out);
@@ -455,7 +467,8 @@ int cbgrid_matrix_distances(const struct cbgrid_matrix *a, uint32_t source, stru
 /* The same from each of `count` sources, in any order, with repetitions: column j of the result is that of sources[j].
  * CBGRID_MIXED, then CBGRID_NOT_SQUARE, then CBGRID_TOO_LARGE if there are more than CBGRID_LIMIT sources, then
  * CBGRID_SOURCE if one of them isn't a vertex: then the call writes to `at` which of them is the first. With a count of 0,
- * `sources` may be a null pointer. Transposes the graph once for all sources, and then searches from each. */
+ * `sources` may be a null pointer. Transposes the graph once for all sources, unless its transpose is kept, and then searches from
+ * each. */
 int cbgrid_matrix_levels_from(const struct cbgrid_matrix *a, const uint32_t *sources, size_t count, uint64_t *at,
                               struct cbgrid_matrix **out);
 int cbgrid_matrix_distances_from(const struct cbgrid_matrix *a, const uint32_t *sources, size_t count, uint64_t *at,

@@ -80,6 +80,7 @@ static void test_null_matrices(void) {
         cbgrid_matrix_parents(NULL, 0, &out),     cbgrid_matrix_parents(a, 0, NULL),
         cbgrid_matrix_components(NULL, &out),     cbgrid_matrix_components(a, NULL),
         cbgrid_matrix_text(NULL, &text),          cbgrid_matrix_text(a, NULL),
+        cbgrid_matrix_keep_transpose(NULL),
     };
     for (size_t n = 0; n < sizeof codes / sizeof *codes; n++) EXPECT(codes[n] == CBGRID_NULL_POINTER);
     EXPECT(!out && text.len == 5);

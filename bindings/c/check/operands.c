@@ -91,7 +91,7 @@ int is_dense(uint32_t semiring, const struct cbgrid_columns *made, const struct 
 }
 
 /* Keeps a dense matrix: from columns, from rows, or from triples in another order. */
-int keep(uint32_t semiring, const struct dense *a, int way, struct cbgrid_matrix **out) {
+static int keep_alone(uint32_t semiring, const struct dense *a, int way, struct cbgrid_matrix **out) {
     struct lists lists;
     if (way == 0) {
         struct cbgrid_columns columns = lend(semiring, a, &lists);
@@ -114,6 +114,17 @@ int keep(uint32_t semiring, const struct dense *a, int way, struct cbgrid_matrix
         }
     }
     return cbgrid_matrix_of_triples(semiring, a->nrows, a->ncols, triples, len, NULL, out);
+}
+
+/* The same, every other time with the transpose. */
+int keep(uint32_t semiring, const struct dense *a, int way, struct cbgrid_matrix **out) {
+    struct cbgrid_matrix *made;
+    int is_alone = (int)draw(2), code = keep_alone(semiring, a, way, &made);
+    if (code) return code;
+    if (!is_alone) code = cbgrid_matrix_keep_transpose(made);
+    if (code) cbgrid_matrix_free(made);
+    else *out = made;
+    return code;
 }
 
 /* Checks a kept matrix by each call that reads it. Returns the code. */

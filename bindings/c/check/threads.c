@@ -41,11 +41,11 @@ static const struct factors factors[] = {
     {70, 70, 70, 2, 1}, {400, 400, 2, 1, 1}, {400, 400, 1, 1, 1}, {200, 900, 600, 9, 8}, {1, 900, 900, 1, 3},
 };
 
-/* Two factors and a mask, and where their product is made: everywhere, under the mask, or outside it. */
+/* Two factors, a mask and a vector, and where the product of the factors is made: everywhere, under the mask, or outside it. */
 enum places { EVERYWHERE, UNDER_MASK, OUTSIDE_MASK, PLACES };
 
 struct operands {
-    struct cbgrid_matrix *a, *b, *mask;
+    struct cbgrid_matrix *a, *b, *mask, *x;
 };
 
 static int by_threads(int places, const struct operands *of, uint32_t threads, struct cbgrid_matrix **out) {
@@ -63,6 +63,7 @@ static void free_operands(struct operands *of) {
     cbgrid_matrix_free(of->a);
     cbgrid_matrix_free(of->b);
     cbgrid_matrix_free(of->mask);
+    cbgrid_matrix_free(of->x);
 }
 
 /* Multiplies two factors by several numbers of threads. */
@@ -90,6 +91,16 @@ static int pruned_of(const struct operands *of, struct cbgrid_matrix **out) {
 static int column_sums_of(const struct operands *of, struct cbgrid_matrix **out) {
     return cbgrid_matrix_column_sums(of->a, out);
 }
+static int row_sums_of(const struct operands *of, struct cbgrid_matrix **out) { return cbgrid_matrix_row_sums(of->a, out); }
+static int vector_of(const struct operands *of, struct cbgrid_matrix **out) {
+    return cbgrid_matrix_multiply(of->a, of->x, NULL, out);
+}
+/* The sum of all values, in a matrix of one place. */
+static int total_of(const struct operands *of, struct cbgrid_matrix **out) {
+    struct cbgrid_triple total = {0, 0, 0};
+    int code = cbgrid_matrix_reduce_all(of->a, &total.value);
+    return code ? code : cbgrid_matrix_of_triples(cbgrid_matrix_semiring(of->a), 1, 1, &total, 1, NULL, out);
+}
 static int turned_of(const struct operands *of, struct cbgrid_matrix **out) { return cbgrid_matrix_transpose(of->a, out); }
 static int upper_of(const struct operands *of, struct cbgrid_matrix **out) {
     return cbgrid_matrix_select(of->a, CBGRID_UPPER, -1, out);
@@ -107,18 +118,70 @@ static int updated_under(const struct operands *of, struct cbgrid_matrix **out) 
     return cbgrid_matrix_update(of->a, of->b, of->mask, CBGRID_COMPLEMENT, out);
 }
 
-enum { PRODUCT, SUM, TIMES, PRUNED, COLUMN_SUMS, TURNED, UPPER, APPLIED, EXCLUDED, UPDATED, UPDATED_UNDER, CALLS };
+/* Every second number below a bound, over and over, ascending or not. */
+#define MOST_NUMBERS 140000u
+static void list_numbers(uint32_t bound, int descend, uint32_t *numbers, size_t count) {
+    uint32_t half = (bound + 1) / 2;
+    for (size_t n = 0; n < count; n++) numbers[n] = 2 * (uint32_t)(descend ? (count - 1 - n) % half : n % half);
+}
+/* Every second row, or all, and as many columns as give each of four threads a share, or all. */
+static int extracted_of(const struct cbgrid_matrix *a, int descend, int all_rows, int all_columns, struct cbgrid_matrix **out) {
+    static uint32_t rows[MOST_NUMBERS], columns[MOST_NUMBERS];
+    uint32_t nrows = cbgrid_matrix_nrows(a), ncols = cbgrid_matrix_ncols(a);
+    size_t row_count = (nrows + 1) / 2, column_count = 0;
+    if (ncols) column_count = 131072 / (1 + cbgrid_matrix_entries(a) / ncols) + 7;
+    if (nrows) list_numbers(nrows, descend, rows, row_count);
+    if (ncols) list_numbers(ncols, 1, columns, column_count);
+    if (all_rows) row_count = CBGRID_ALL;
+    if (all_columns) column_count = CBGRID_ALL;
+    return cbgrid_matrix_extract(a, rows, row_count, columns, column_count, NULL, out);
+}
+static int both_of(const struct operands *of, struct cbgrid_matrix **out) { return extracted_of(of->a, 0, 0, 0, out); }
+static int turned_rows_of(const struct operands *of, struct cbgrid_matrix **out) { return extracted_of(of->a, 1, 0, 0, out); }
+static int columns_of(const struct operands *of, struct cbgrid_matrix **out) { return extracted_of(of->a, 0, 1, 0, out); }
+static int rows_of(const struct operands *of, struct cbgrid_matrix **out) { return extracted_of(of->a, 0, 0, 1, out); }
+static int all_of(const struct operands *of, struct cbgrid_matrix **out) { return extracted_of(of->a, 0, 1, 1, out); }
+
+/* The Kronecker product with a corner of the other operand. */
+static int kronecker_of(const struct operands *of, struct cbgrid_matrix **out) {
+    struct cbgrid_matrix *corner;
+    if (!of->a || !of->b) return cbgrid_matrix_kron(of->a, of->b, out);
+    uint32_t rows = cbgrid_matrix_nrows(of->b), columns = cbgrid_matrix_ncols(of->b);
+    int code = cbgrid_matrix_part(of->b, 0, rows < 3 ? rows : 3, 0, columns < 4 ? columns : 4, &corner);
+    if (code) return code;
+    code = cbgrid_matrix_kron(of->a, corner, out);
+    cbgrid_matrix_free(corner);
+    return code;
+}
+
+/* The third power of a corner, if that is square. */
+static int power_of(const struct operands *of, struct cbgrid_matrix **out) {
+    struct cbgrid_matrix *corner;
+    uint32_t rows = cbgrid_matrix_nrows(of->a), columns = cbgrid_matrix_ncols(of->a);
+    if (!of->a || rows < 100 || columns < 100 || rows != columns) return cbgrid_matrix_power(of->a, 3, out);
+    int code = cbgrid_matrix_part(of->a, 0, 100, 0, 100, &corner);
+    if (code) return code;
+    code = cbgrid_matrix_power(corner, 3, out);
+    cbgrid_matrix_free(corner);
+    return code;
+}
+
+enum {
+    PRODUCT, SUM, TIMES, PRUNED, COLUMN_SUMS, ROW_SUMS, VECTOR, TOTAL, TURNED, UPPER, APPLIED, EXCLUDED, UPDATED, UPDATED_UNDER,
+    BOTH, TURNED_ROWS, COLUMNS, ROWS, ALL, KRONECKER, POWER, CALLS
+};
 static int (*const calls[CALLS])(const struct operands *of, struct cbgrid_matrix **out) = {
-    product_of, sum_of,   times_of,   pruned_of,   column_sums_of, turned_of,
-    upper_of,   applied_to, excluded_of, updated_of, updated_under,
+    product_of, sum_of,    times_of, pruned_of, column_sums_of, row_sums_of, vector_of,
+    total_of,   turned_of, upper_of, applied_to, excluded_of,   updated_of,  updated_under,
+    both_of, turned_rows_of, columns_of, rows_of, all_of, kronecker_of, power_of,
 };
 
 /* Operands of the same shape, and a share for each of several threads; a few entries less and a few more than are left to one
- * thread; a mask that has more entries than the others; a column, which can't be parted. The product of those that aren't square
- * is refused. */
+ * thread; a mask that has more entries than the others; a column, which can't be parted; enough entries for shares of the sum of
+ * all. The product of those that aren't square is refused. */
 static const struct factors operands_of_calls[] = {
     {300, 300, 300, 1, 1}, {700, 700, 700, 9, 3}, {128, 128, 128, 1, 1}, {128, 150, 150, 1, 1}, {400, 400, 400, 90, 9},
-    {2, 60000, 60000, 1, 1}, {60000, 1, 1, 1, 1}, {0, 0, 0, 0, 0},
+    {2, 60000, 60000, 1, 1}, {60000, 1, 1, 1, 1}, {0, 0, 0, 0, 0}, {300, 900, 900, 1, 1},
 };
 
 static struct operands same_shape(uint32_t semiring, const struct factors *f) {
@@ -126,6 +189,7 @@ static struct operands same_shape(uint32_t semiring, const struct factors *f) {
         random_kept(semiring, f->nrows, f->ncols, f->one_of_a),
         random_kept(semiring, f->nrows, f->ncols, f->one_of_b),
         random_kept(semiring, f->nrows, f->ncols, f->one_of_a ? 2 : 0),
+        random_kept(semiring, f->ncols, 1, f->one_of_b),
     };
 }
 
@@ -211,23 +275,29 @@ static void test_calls_refused_memory(size_t k, int step) {
 static void test_calls_codes(void) {
     struct cbgrid_matrix *a = random_kept(0, 300, 300, 1), *wide = random_kept(0, 300, 301, 1);
     struct cbgrid_matrix *other = random_kept(1, 300, 301, 1), *flags = random_kept(CBGRID_OR_AND, 300, 300, 1);
+    struct cbgrid_matrix *x = random_kept(0, 300, 1, 1), *other_x = random_kept(1, 301, 1, 1);
     const struct {
         size_t call;
         struct operands of;
         int code;
     } rows[] = {
-        {PRODUCT, {a, other, NULL}, CBGRID_MIXED},    {PRODUCT, {wide, a, NULL}, CBGRID_SHAPES},
-        {SUM, {a, other, NULL}, CBGRID_MIXED},        {SUM, {a, wide, NULL}, CBGRID_SHAPES},
-        {TIMES, {wide, other, NULL}, CBGRID_MIXED},   {TIMES, {wide, a, NULL}, CBGRID_SHAPES},
-        {EXCLUDED, {a, other, NULL}, CBGRID_MIXED},   {EXCLUDED, {a, wide, NULL}, CBGRID_SHAPES},
-        {UPDATED, {a, other, NULL}, CBGRID_MIXED},    {UPDATED, {wide, a, NULL}, CBGRID_SHAPES},
-        {UPDATED_UNDER, {a, wide, other}, CBGRID_MIXED}, {UPDATED_UNDER, {a, other, wide}, CBGRID_MIXED},
-        {UPDATED_UNDER, {a, a, wide}, CBGRID_SHAPES}, {UPDATED_UNDER, {wide, a, a}, CBGRID_SHAPES},
-        {SUM, {a, NULL, NULL}, CBGRID_NULL_POINTER},  {PRUNED, {NULL, a, NULL}, CBGRID_NULL_POINTER},
-        {COLUMN_SUMS, {NULL, a, NULL}, CBGRID_NULL_POINTER}, {UPPER, {NULL, a, NULL}, CBGRID_NULL_POINTER},
-        {TURNED, {NULL, a, NULL}, CBGRID_NULL_POINTER},
-        {APPLIED, {NULL, a, NULL}, CBGRID_NULL_POINTER}, {EXCLUDED, {a, NULL, NULL}, CBGRID_NULL_POINTER},
-        {UPDATED, {a, NULL, a}, CBGRID_NULL_POINTER},
+        {PRODUCT, {a, other, NULL, NULL}, CBGRID_MIXED},    {PRODUCT, {wide, a, NULL, NULL}, CBGRID_SHAPES},
+        {SUM, {a, other, NULL, NULL}, CBGRID_MIXED},        {SUM, {a, wide, NULL, NULL}, CBGRID_SHAPES},
+        {TIMES, {wide, other, NULL, NULL}, CBGRID_MIXED},   {TIMES, {wide, a, NULL, NULL}, CBGRID_SHAPES},
+        {EXCLUDED, {a, other, NULL, NULL}, CBGRID_MIXED},   {EXCLUDED, {a, wide, NULL, NULL}, CBGRID_SHAPES},
+        {UPDATED, {a, other, NULL, NULL}, CBGRID_MIXED},    {UPDATED, {wide, a, NULL, NULL}, CBGRID_SHAPES},
+        {UPDATED_UNDER, {a, wide, other, NULL}, CBGRID_MIXED}, {UPDATED_UNDER, {a, other, wide, NULL}, CBGRID_MIXED},
+        {UPDATED_UNDER, {a, a, wide, NULL}, CBGRID_SHAPES}, {UPDATED_UNDER, {wide, a, a, NULL}, CBGRID_SHAPES},
+        {SUM, {a, NULL, NULL, NULL}, CBGRID_NULL_POINTER},  {PRUNED, {NULL, a, NULL, NULL}, CBGRID_NULL_POINTER},
+        {VECTOR, {.a = a, .x = other_x}, CBGRID_MIXED},  {VECTOR, {.a = wide, .x = x}, CBGRID_SHAPES},
+        {VECTOR, {.a = a}, CBGRID_NULL_POINTER},         {ROW_SUMS, {.b = a}, CBGRID_NULL_POINTER},
+        {TOTAL, {.b = a}, CBGRID_NULL_POINTER},
+        {COLUMN_SUMS, {NULL, a, NULL, NULL}, CBGRID_NULL_POINTER}, {UPPER, {NULL, a, NULL, NULL}, CBGRID_NULL_POINTER},
+        {TURNED, {NULL, a, NULL, NULL}, CBGRID_NULL_POINTER},
+        {APPLIED, {NULL, a, NULL, NULL}, CBGRID_NULL_POINTER}, {EXCLUDED, {a, NULL, NULL, NULL}, CBGRID_NULL_POINTER},
+        {UPDATED, {a, NULL, a, NULL}, CBGRID_NULL_POINTER},
+        {BOTH, {.b = a}, CBGRID_NULL_POINTER}, {KRONECKER, {.a = a}, CBGRID_NULL_POINTER},
+        {POWER, {.b = a}, CBGRID_NULL_POINTER}, {POWER, {.a = wide, .b = a}, CBGRID_NOT_SQUARE},
     };
     struct cbgrid_matrix *out = NULL;
     cbgrid_threads(4);
@@ -242,8 +312,19 @@ static void test_calls_codes(void) {
     EXPECT(cbgrid_matrix_prune(a, 7, 1, &out) == CBGRID_TEST && cbgrid_matrix_select(a, 4, 0, &out) == CBGRID_TEST);
     EXPECT(cbgrid_matrix_apply(a, 6, 0, &out) == CBGRID_TEST && cbgrid_matrix_update(a, other, wide, 8, &out) == CBGRID_TEST);
     EXPECT(cbgrid_matrix_apply(flags, CBGRID_CONSTANT, 2, &out) == CBGRID_VALUE && !out);
+    EXPECT(cbgrid_matrix_kron(a, other, &out) == CBGRID_MIXED && cbgrid_matrix_power(a, 0, &out) == CBGRID_TEST && !out);
+    static uint32_t numbers[1000];
+    uint64_t at = 0;
+    numbers[999] = 300;
+    left = 0;
+    EXPECT(cbgrid_matrix_extract(a, NULL, CBGRID_ALL, numbers, 1000, &at, &out) == CBGRID_PLACE && at == 999 && !out);
+    EXPECT(cbgrid_matrix_extract(a, numbers, 1000, numbers, 900, &at, &out) == CBGRID_PLACE && at == 999 && !out);
+    EXPECT(left == 0);
+    EXPECT(cbgrid_matrix_extract(wide, numbers, 1, numbers, 1000, &at, &out) == CBGRID_MEMORY && !out);
     left = -1;
     cbgrid_threads(1);
+    cbgrid_matrix_free(x);
+    cbgrid_matrix_free(other_x);
     cbgrid_matrix_free(flags);
     cbgrid_matrix_free(a);
     cbgrid_matrix_free(wide);
@@ -257,6 +338,7 @@ static struct operands random_operands(uint32_t semiring, const struct factors *
         random_kept(semiring, f->nrows, f->inner, f->one_of_a),
         random_kept(semiring, f->inner, f->ncols, f->one_of_b),
         random_kept(semiring, f->nrows, f->ncols, 4),
+        NULL,
     };
 }
 
@@ -308,13 +390,13 @@ static void test_threads_codes(void) {
         struct operands of;
         int code, masked_code;
     } rows[] = {
-        {{a, other, mask}, CBGRID_MIXED, CBGRID_MIXED},
-        {{b, b, mask}, CBGRID_SHAPES, CBGRID_SHAPES},
-        {{b, b, other}, CBGRID_SHAPES, CBGRID_MIXED},
-        {{a, b, other}, CBGRID_OK, CBGRID_MIXED},
-        {{a, b, b}, CBGRID_OK, CBGRID_SHAPES},
-        {{NULL, other, b}, CBGRID_NULL_POINTER, CBGRID_NULL_POINTER},
-        {{a, NULL, b}, CBGRID_NULL_POINTER, CBGRID_NULL_POINTER},
+        {{a, other, mask, NULL}, CBGRID_MIXED, CBGRID_MIXED},
+        {{b, b, mask, NULL}, CBGRID_SHAPES, CBGRID_SHAPES},
+        {{b, b, other, NULL}, CBGRID_SHAPES, CBGRID_MIXED},
+        {{a, b, other, NULL}, CBGRID_OK, CBGRID_MIXED},
+        {{a, b, b, NULL}, CBGRID_OK, CBGRID_SHAPES},
+        {{NULL, other, b, NULL}, CBGRID_NULL_POINTER, CBGRID_NULL_POINTER},
+        {{a, NULL, b, NULL}, CBGRID_NULL_POINTER, CBGRID_NULL_POINTER},
     };
     for (size_t n = 0; n < sizeof rows / sizeof *rows; n++) {
         for (uint32_t threads = 0; threads < 4; threads++) {

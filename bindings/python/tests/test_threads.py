@@ -73,12 +73,16 @@ class Threads(unittest.TestCase):
     def test_calls_by_set_threads(self):
         calls = (
             lambda a, b: a @ b, lambda a, b: a + b, lambda a, b: a * b, lambda a, b: cbgrid.prune(a, "below", 9),
-            lambda a, b: a.sums("columns"), lambda a, b: a.triu(-1), lambda a, b: a.apply("sum", 1), lambda a, b: a.exclude(b),
+            lambda a, b: a.sums("columns"), lambda a, b: a.sums("rows"), lambda a, b: a @ a.sums("rows"), lambda a, b: a.sum(),
+            lambda a, b: a.triu(-1), lambda a, b: a.apply("sum", 1), lambda a, b: a.exclude(b),
             lambda a, b: a.update(b, accumulate=True), lambda a, b: b.update(a, a.tril(), complement=True, replace=True),
+            lambda a, b: a[0:300:2, np.arange(20000) % 300], lambda a, b: a[:, np.arange(20000) % 7],
+            lambda a, b: a[::-3, np.arange(20000) % 300], lambda a, b: b[1:300:2, :],
+            lambda a, b: a.kron(b[0:4, 0:3]), lambda a, b: a ** 3,
         )
         for semiring in SEMIRINGS:
-            for count in (900, 90000):
-                a, b = self.factor(300, 300, count, semiring), self.factor(300, 300, 30000, semiring)
+            for rows, count, other in ((300, 900, 30000), (300, 90000, 30000), (400, 400000, 3000)):
+                a, b = self.factor(rows, rows, count, semiring), self.factor(rows, rows, other, semiring)
                 want = [call(a, b) for call in calls]
                 try:
                     for threads in THREADS:

@@ -12,8 +12,8 @@ use cb_product::multiply;
 use cb_reshape::{column_sums, place, row_sums, transpose};
 use cb_samples::{SampleFault, block, shape};
 use cb_selections::{
-    SelectionFault, WriteBack, compute, extract, extract_columns, extract_rows, multiply_turned,
-    update,
+    SelectionFault, WriteBack, compute, extract, extract_between, extract_columns, extract_rows,
+    multiply_turned, update,
 };
 use cb_semirings::PlusTimes;
 use std::alloc::{AllocError, Global};
@@ -46,6 +46,7 @@ pub(crate) enum Call<'a> {
     Diagonal,
     DiagonalMatrix,
     Extract(&'a [u32], &'a [u32]),
+    ExtractBetween(&'a [u32], &'a [u32], usize, usize),
     ExtractRows(&'a [u32]),
     ExtractColumns(&'a [u32]),
     /// The product of this many equal factors.
@@ -130,6 +131,25 @@ fn extracted(alloc: Global, whole: &Block<PlusTimes>, rows: &[u32], cols: &[u32]
     Ok(extract(alloc, whole, Some(rows), Some(cols))?)
 }
 
+/// The columns at some places of the second list.
+fn extracted_between(
+    alloc: Global,
+    whole: &Block<PlusTimes>,
+    rows: &[u32],
+    cols: &[u32],
+    first: usize,
+    end: usize,
+) -> Made {
+    let limit = LIMIT as usize;
+    if rows.len() > limit || cols.len() > limit || !are_below(rows, whole.shape().rows()) {
+        return Err(SampleFault::Shape);
+    }
+    if first > end || end > cols.len() {
+        return Err(SampleFault::Shape);
+    }
+    Ok(extract_between(alloc, whole, Some(rows), cols, first, end)?)
+}
+
 /// The rows with these numbers.
 fn some_rows(alloc: Global, whole: &Block<PlusTimes>, rows: &[u32]) -> Made {
     if rows.len() > LIMIT as usize || !are_below(rows, whole.shape().rows()) {
@@ -150,6 +170,9 @@ fn some_columns(alloc: Global, whole: &Block<PlusTimes>, cols: &[u32]) -> Made {
 fn listed(alloc: Global, call: &Call<'_>, given: &Block<PlusTimes>) -> Made {
     match call {
         Call::Extract(rows, cols) => extracted(alloc, given, rows, cols),
+        Call::ExtractBetween(rows, cols, first, end) => {
+            extracted_between(alloc, given, rows, cols, *first, *end)
+        }
         Call::ExtractRows(rows) => some_rows(alloc, given, rows),
         Call::ExtractColumns(cols) => some_columns(alloc, given, cols),
         _ => Err(SampleFault::Shape),

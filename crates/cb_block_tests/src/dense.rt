@@ -1,6 +1,6 @@
 //! Worked examples.
 use cb_dcsc::Block;
-use cb_dense::add_product;
+use cb_dense::{add_product, add_product_of_columns};
 use cb_matrix::{Entry, LIMIT};
 use cb_samples::{SampleFault, block, entries};
 use cb_semirings::PlusTimes;
@@ -43,6 +43,38 @@ fn is_added(alloc: Global, case: &Case) -> Result<bool, SampleFault> {
     let vector = block::<PlusTimes>(alloc, case.columns, 1, case.vector)?;
     let mut sums = case.sums.to_vec(alloc)?;
     Ok(adds(&mut sums, &matrix, &vector, case.wanted))
+}
+
+/// Whether adding the product of the columns before a place, and then that of the others, makes these sums.
+fn adds_in_two(
+    sums: &mut [u64],
+    matrix: &Block<PlusTimes>,
+    vector: &Block<PlusTimes>,
+    place: usize,
+    wanted: &[u64],
+) -> bool {
+    let (shape, column) = (matrix.shape(), vector.shape());
+    if shape.cols() != column.rows() || column.cols() != 1 || sums.len() != shape.rows() as usize {
+        return false;
+    }
+    let all = matrix.columns();
+    let place = place.min(all);
+    add_product_of_columns(sums, matrix, vector, 0, place);
+    add_product_of_columns(sums, matrix, vector, place, all);
+    *sums == *wanted
+}
+
+/// Whether a case is right in two parts, at whatever place it is divided.
+fn is_added_in_two(alloc: Global, case: &Case) -> Result<bool, SampleFault> {
+    let matrix = block::<PlusTimes>(alloc, case.rows, case.columns, case.block)?;
+    let vector = block::<PlusTimes>(alloc, case.columns, 1, case.vector)?;
+    for place in 0..4 {
+        let mut sums = case.sums.to_vec(alloc)?;
+        if !adds_in_two(&mut sums, &matrix, &vector, place, case.wanted) {
+            return Ok(false);
+        }
+    }
+    Ok(true)
 }
 
 /// Four rows and five columns, two of them without entries:
@@ -128,5 +160,12 @@ const CASES: &[Case] = &[
 fn products_are_added_to_what_is_there(rt: HostRuntime) {
     for case in CASES {
         assert!(rt; is_added(rt.alloc(), case) == Ok(true));
+    }
+}
+
+#[test]
+fn products_of_some_columns_add_up_to_that_of_all(rt: HostRuntime) {
+    for case in CASES {
+        assert!(rt; is_added_in_two(rt.alloc(), case) == Ok(true));
     }
 }

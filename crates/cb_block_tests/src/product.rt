@@ -573,6 +573,51 @@ fn is_plain_far_apart(alloc: Global) -> Result<bool, SampleFault> {
     are_plain(alloc, [20000, 3, 4], [&left, FAR, FEW])
 }
 
+/// Six columns whose rows overlap. The first has this many entries, the others 19 each. Neighbours are 1 and -1, and so are
+/// the values that columns have in the same row.
+fn overlapping(alloc: Global, first: u32) -> Result<Vec<Entry>, AllocError> {
+    let mut entries = Vec::new(alloc);
+    for column in 0..6 {
+        let count = if column == 0 { first } else { 19 };
+        for n in 0..count.min(20) {
+            let row = 2 * column + n;
+            let value = if n % 2 == 0 { 1 } else { u64::MAX };
+            let signed = if column % 2 == 0 {
+                value
+            } else {
+                value.wrapping_neg()
+            };
+            entries.push(entry(row, column, signed))?;
+        }
+    }
+    Ok(entries)
+}
+
+/// Five columns that name the first two, three, .. of these.
+fn naming(alloc: Global) -> Result<Vec<Entry>, AllocError> {
+    let mut entries = Vec::new(alloc);
+    for column in 0..5 {
+        for row in 0..column + 2 {
+            entries.push(entry(row, column, 1))?;
+        }
+    }
+    Ok(entries)
+}
+
+/// Whether they agree where five terms have 76 products and these, to which a third block adds one: columns with few
+/// products are joined, others added in the sparse accumulator.
+fn is_plain_of(alloc: Global, first: u32) -> Result<bool, SampleFault> {
+    let left = overlapping(alloc, first)?;
+    let right = naming(alloc)?;
+    are_plain(alloc, [32, 6, 5], [&left, &right, FEW])
+}
+
+#[test]
+fn few_overlapping_columns_give_the_plain_product(rt: HostRuntime) {
+    assert!(rt; is_plain_of(rt.alloc(), 19) == Ok(true));
+    assert!(rt; is_plain_of(rt.alloc(), 20) == Ok(true));
+}
+
 /// Two factors: the left one has this many columns.
 #[derive(Clone, Copy)]
 struct Pair<'a> {

@@ -213,7 +213,7 @@ const REPLACED: &[Case<'static>] = &[
 ];
 
 /// Rows and columns in another order, some left out and some repeated; none; rows in order, some and all; columns without
-/// entries before them; and the last of the largest sides.
+/// entries before them; the last of the largest sides; and columns at some places of their list alone, or at none.
 const EXTRACTED: &[Case<'static>] = &[
     (
         Call::Extract(&[3, 0, 0], &[3, 1, 3, 0]),
@@ -243,6 +243,47 @@ const EXTRACTED: &[Case<'static>] = &[
         Call::Extract(&[LAST, 0], &[0, LAST]),
         &[((LIMIT, LIMIT), entries![(LAST, 0, 1), (LAST, LAST, TOP)])],
         ((2, 2), entries![(0, 0, 1), (0, 1, TOP)]),
+    ),
+    (
+        Call::Extract(&[0, 2, 3], &[4, 0, 0, 3]),
+        &[GIVEN],
+        (
+            (3, 4),
+            entries![
+                (0, 0, 8),
+                (0, 1, 1),
+                (1, 1, 2),
+                (0, 2, 1),
+                (1, 2, 2),
+                (1, 3, 6),
+                (2, 3, 7)
+            ],
+        ),
+    ),
+    (
+        Call::Extract(&[0, LAST], &[0, LAST]),
+        &[((LIMIT, LIMIT), entries![(LAST, 0, 1), (LAST, LAST, TOP)])],
+        ((2, 2), entries![(1, 0, 1), (1, 1, TOP)]),
+    ),
+    (
+        Call::ExtractBetween(&[0, 2, 3], &[4, 0, 0, 3], 1, 3),
+        &[GIVEN],
+        ((3, 4), entries![(0, 1, 1), (1, 1, 2), (0, 2, 1), (1, 2, 2)]),
+    ),
+    (
+        Call::ExtractBetween(&[3, 0], &[4, 0, 3], 2, 3),
+        &[GIVEN],
+        ((2, 3), entries![(0, 2, 7)]),
+    ),
+    (
+        Call::ExtractBetween(&[0, 1, 2, 3], &[4, 0, 3], 0, 1),
+        &[GIVEN],
+        ((4, 3), entries![(0, 0, 8)]),
+    ),
+    (
+        Call::ExtractBetween(&[1], &[1, 1], 1, 1),
+        &[GIVEN],
+        ((1, 2), &[]),
     ),
     (
         Call::ExtractRows(&[0, 2, 3]),

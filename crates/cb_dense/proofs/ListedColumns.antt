@@ -1,10 +1,12 @@
 -- The columns that have entries, each times the vector's value at its number, added to dense sums one after another.
-use Rattle.std.proofs.Common.{◌≡◌, ◌≢◌, ℕ, zero, suc, ◌+◌, ◌<◌, ◌≤◌, List, [], ◌∷◌, length, map, drop, get_or, sym, ap, subst, ◌∙◌, ⊎_elim, arith}
-use Rattle.std.specs.Prelude.{All, AllPairs}
+use Rattle.std.proofs.Common.{◌≡◌, ◌≢◌, ℕ, zero, suc, ◌+◌, ◌-◌, ◌<◌, ◌≤◌, List, [], ◌∷◌, length, map, drop, get_or, refl, sym, ap, subst, ◌∙◌, ⊎_elim, arith}
+use Rattle.std.specs.Prelude.{All, AllPairs, Contains, slice_range}
 use Rattle.std.specs.List.{range_with_len}
 use Rattle.std.proofs.lemmas.Bool.{cases_eq, cases_lt}
 use Rattle.std.proofs.lemmas.List.{drop_more, drop_all, get_or_default, length-map}
-use Rattle.std.proofs.lemmas.List.Elements.{All-nil, All-cons, All-head, All-tail, All-get_or, All-weaker}
+use Rattle.std.proofs.lemmas.List.Edits.{length-between, get_or-between}
+use Rattle.std.proofs.lemmas.List.Elements.{All-nil, All-cons, All-head, All-tail, All-get_or, All-weaker, All-take, All-drop}
+use Rattle.std.proofs.lemmas.Slice.{between_to_end}
 use Rattle.cb_semirings.specs.Arithmetic.{Arithmetic, IsValue, IsSemiring}
 use Rattle.cb_matrix.specs.declared.Entry.{Entry}
 use Rattle.cb_matrix.specs.Sparse.{Sparse, IsMatrix, IsInside, at}
@@ -12,11 +14,12 @@ use Rattle.cb_matrix.specs.Values.{total, product, product_shape}
 use Rattle.cb_matrix.proofs.Made.{at-matrix_of}
 use Rattle.cb_matrix.proofs.Pairs.{AllPairs-head, AllPairs-tail}
 use Rattle.cb_matrix.proofs.Totals.{add_zero, value_at-value, total_value, each_value, total-zero}
-use Rattle.cb_dcsc.specs.Columns.{in_column, rows_of, values_of, row_value}
+use Rattle.cb_dcsc.specs.Columns.{in_column, rows_of, values_of, row_value, columns_with_entries}
 use Rattle.cb_dcsc.proofs.Lookup.{column_value, column_values, column_ascends, row_value-found, row_value-absent}
 use Rattle.cb_dcsc.proofs.ColumnEntries.{in_column-all}
-use Rattle.cb_product.specs.InColumns.{AreInColumns}
+use Rattle.cb_product.specs.InColumns.{AreInColumns, only_columns}
 use Rattle.cb_product.proofs.ColumnsMade.{absent_value}
+use Rattle.cb_product.proofs.OnlyColumns.{among_at, only_all, only_in, only_matrix, only_value}
 
 -- a number above all ascending rows before the n-th, and below the n-th, isn't one of them
 pub not_among : (rows : List ℕ) (n j : ℕ) → AllPairs (λ c d. c < d) rows → ((k : ℕ) → k < n → get_or rows k 0 < j) → (n < length rows → j < get_or rows n 0) → All (λ c. c ≢ j) rows
@@ -147,3 +150,45 @@ module _ (s : Arithmetic) (laws : IsSemiring s) (a x : Sparse) (is : IsMatrix s 
     all_columns_added n sums T l sums_are so_far i li =
         sym (add_zero s laws (get_or sums i s.zero) (All-get_or (IsValue s) sums i s.zero li sums_are))
         ∙ ap (λ ks. s.add (get_or sums i s.zero) (listed_sum s a x i ks)) (sym (drop_all n columns l)) ∙ so_far i li
+
+-- ---- some columns, by their places among all that have entries
+module _ (xs : List ℕ) (low high : ℕ) (h : high ≤ length xs) where
+  -- the nth of them
+  pub some_at : (n d : ℕ) → n < length (slice_range xs low high) → get_or (slice_range xs low high) n d ≡ get_or xs (low + n) d
+  some_at n d l = let long = length-between xs low high h in get_or-between xs low high n d (omega arith)
+
+  -- they ascend
+  pub some_ascend : AllPairs (λ c d. c < d) xs → AllPairs (λ c d. c < d) (slice_range xs low high)
+  some_ascend up i j d l k =
+      let long = length-between xs low high h in
+      let e = get_or-between xs low high i d (omega arith) in
+      let f = get_or-between xs low high j d (omega arith) in
+      let less : get_or xs (low + i) d < get_or xs (low + j) d = up (low + i) (low + j) d (omega arith) (omega arith) in
+      omega arith
+
+  -- and are inside
+  pub some_inside : (n : ℕ) → All (λ c. c < n) xs → All (λ c. c < n) (slice_range xs low high)
+  some_inside n k = All-take (λ c. c < n) (high - low) (drop low xs) (All-drop (λ c. c < n) low xs k)
+
+-- what is the same at each of some numbers
+same_map : (f g : ℕ → ℕ) (ks : List ℕ) → All (λ k. f k ≡ g k) ks → map f ks ≡ map g ks
+same_map f g [] h = refl
+same_map f g (k ∷ ks) h =
+    let first = All-head (λ k. f k ≡ g k) k ks h in
+    let rest = same_map f g ks (All-tail (λ k. f k ≡ g k) k ks h) in
+    λ i. first i ∷ rest i
+
+module _ (s : Arithmetic) (laws : IsSemiring s) (a x : Sparse) (is : IsMatrix s a) (is_x : IsMatrix s x) where
+  -- over listed columns it is the product with only these columns
+  pub some_product : (columns : List ℕ) → AllPairs (λ c d. c < d) columns → All (λ c. c < a.shape.cols) columns → x.shape.cols ≡ 1 → (i : ℕ) → i < a.shape.rows → listed_sum s a x i columns ≡ at s (product s (only_columns columns a) x) i 0
+  some_product columns up inside one i l =
+      let only : Sparse = only_columns columns a in
+      ap (total s) (same_map (part s a x i) (part s only x i) columns (λ n d k. ap (λ v. s.mul v (at s x (get_or columns n d) 0)) (sym (only_value s.zero columns a i (get_or columns n d) (among_at columns n d k)))))
+      ∙ listed_product s laws only x (only_matrix s columns a is) is_x columns up inside (only_in columns a) one i l
+
+-- all places are those of the whole matrix
+pub all_places : (m : Sparse) (high : ℕ) (xs : List ℕ) → xs ≡ columns_with_entries m.entries → All (λ e. Contains xs e.column) m.entries → high ≡ length xs → only_columns (slice_range (columns_with_entries m.entries) 0 high) m ≡ m
+all_places m high xs numbers all h =
+    let whole : slice_range xs 0 high ≡ xs = between_to_end xs 0 high (omega (arith, h)) in
+    only_all (slice_range (columns_with_entries m.entries) 0 high) m
+    (subst (λ cs. AreInColumns cs m.entries) (sym (ap (λ cs. slice_range cs 0 high) (sym numbers) ∙ whole)) all)

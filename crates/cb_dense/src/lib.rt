@@ -10,12 +10,14 @@
 //! sum.
 #![tactic(auto)]
 
-ghost use Rattle.std.specs.Prelude.{◌≡◌, ℕ, ◌<◌, ◌≤◌, Some, length, All, AllPairs, slice_index};
+ghost use Rattle.std.specs.Prelude.{◌≡◌, ℕ, ◌<◌, ◌≤◌, Some, length, All, AllPairs, slice_index, slice_range};
 ghost use Rattle.cb_semirings.specs.Arithmetic.{IsValue};
 ghost use Rattle.cb_matrix.specs.Sparse.{at};
 ghost use Rattle.cb_matrix.specs.Values.{product};
+ghost use Rattle.cb_dcsc.specs.Columns.{columns_with_entries};
 ghost use Rattle.cb_product.specs.SparseColumn.{scaled_at};
 ghost use Rattle.cb_product.specs.DenseSums.{AddsToSums};
+ghost use Rattle.cb_product.specs.InColumns.{only_columns};
 
 use cb_dcsc::Block;
 use cb_semirings::Semiring;
@@ -35,14 +37,40 @@ pub fn add_product<S: Semiring>(sums: &mut [u64], matrix: &Block<S>, vector: &Bl
     ensures values { All (IsValue S.arithmetic) sums.new }
     ensures sums { AddsToSums S.arithmetic matrix.now.shape.rows (λ i. at S.arithmetic (product S.arithmetic matrix.now vector.now) i 0) sums.old sums.new }
 {
-    prove_eq!(matrix.shape().cols(), vector.shape().rows());
     let columns = matrix.column_numbers();
+    add_product_of_columns(sums, matrix, vector, 0, columns.len());
+}
+
+/// Adds the product of some columns of a block and a vector: of those from one place up to, but not including, another, among the
+/// columns that have entries.
+///
+/// Costs the same for these columns alone, but may pass over the entries of the vector that are before them.
+pub fn add_product_of_columns<S: Semiring>(
+    sums: &mut [u64],
+    matrix: &Block<S>,
+    vector: &Block<S>,
+    low: usize,
+    high: usize,
+)
+    requires length { length sums.old ≡ matrix.now.shape.rows }
+    requires values { All (IsValue S.arithmetic) sums.old }
+    requires agree { matrix.now.shape.cols ≡ vector.now.shape.rows }
+    requires column { vector.now.shape.cols ≡ 1 }
+    requires order { low ≤ high }
+    requires within { high ≤ length (columns_with_entries matrix.now.entries) }
+    ensures length { length sums.new ≡ length sums.old }
+    ensures values { All (IsValue S.arithmetic) sums.new }
+    ensures sums { AddsToSums S.arithmetic matrix.now.shape.rows (λ i. at S.arithmetic (product S.arithmetic (only_columns (slice_range (columns_with_entries matrix.now.entries) low high) matrix.now) vector.now) i 0) sums.old sums.new }
+{
+    prove_eq!(matrix.shape().cols(), vector.shape().rows());
+    let all = matrix.column_numbers();
+    let columns = &all[low..high];
     let (places, factors) = (vector.row_numbers(), vector.values());
     let mut next = 0;
     for n in 0..columns.len() {
         next = advance(places, next, columns[n]);
         if next < places.len() && places[next] == columns[n] {
-            let (rows, values) = matrix.nth_column(n);
+            let (rows, values) = matrix.nth_column(low + n);
             add_column::<S>(sums, rows, values, factors[next]);
         }
     }

@@ -6,7 +6,7 @@ use mir.Syntax.{static}
 use denote.RawPtr.{Ptr, ptr_val}
 use denote.Ref.{Bor, ShrRef, MutBor, MutRef}
 use Rattle.cb_kept.specs.declared.kept.Kept.{Kept}
-use Rattle.cb_kept.specs.contracts.kept.Kept.{the_row}
+use Rattle.cb_kept.specs.contracts.kept_matrices.KeptMatrix.{the_row}
 
 -- the pointer owns a kept matrix, and nobody else has it; or it is a place for one
 abbrev pub owned_at : Ptr → Option (MutBor Kept) → Fml

@@ -14,8 +14,8 @@ use Rattle.cb_kept.specs.declared.faults.Fault.TheVariants.{Memory}
 use Rattle.cb_kept.specs.declared.kept.Kept.{Kept}
 use Rattle.cb_kept.specs.Refusals.{code_of, over, read_faults, list_faults}
 use Rattle.cb_kept.specs.KeptAnswers.{kept_faults, HasMadeKept, OverName, IsKeptOf}
-use Rattle.cb_kept.specs.Kept.{matrix_in}
-use Rattle.cb_kept.specs.KeptSelections.{selection_faults, HasSelected, HasSelectedColumns, number_faults, IsKeptExtract}
+use Rattle.cb_kept.specs.Kept.{matrix_in, semiring_of}
+use Rattle.cb_kept.specs.KeptSelections.{selection_faults, HasSelected, HasSelectedColumns, number_faults, IsKeptExtract, IsKeptExtractColumns}
 use Rattle.cb_kept.specs.KeptTurned.{turned_faults, IsKeptTurned}
 use Rattle.cb_selections.specs.declared.updates.WriteBack.{WriteBack}
 use Rattle.cb_kept.specs.KeptUpdates.{update_faults, HasUpdated, HasUpdatedColumns}
@@ -24,6 +24,8 @@ use Rattle.cb_shares.specs.Shares.{AreEnds}
 use Rattle.cb_kept.specs.declared.kept_masked_panels.Allowed.{Allowed}
 use Rattle.cb_kept.specs.KeptPanels.{factor_faults, join_faults, IsKeptJoin, IsKeptMaskedPanel, IsKeptPanel}
 use Rattle.cb_kept.specs.KeptShares.{pair_faults, HasMadeColumns}
+use Rattle.cb_kept.specs.KeptSums.{AddsShare, IsKeptColumn, IsKeptShare, share_faults, sum_faults}
+use Rattle.cb_kept.specs.declared.kept_sums.Sums.{Sums}
 use Rattle.cb_kept.specs.declared.kept_graphs.KeptAnswer.{KeptAnswer}
 use Rattle.cb_kept.specs.declared.kept_graphs.KeptAnswer.TheVariants.{Matrix, Number}
 use Rattle.cb_kept.specs.KeptGraphs.{graph_faults, IsGraphAnswer}
@@ -115,9 +117,12 @@ IsEntryEndsCall a b code old new = IsCall (pair_faults a b) (AreEnds (length old
 unfoldable pub IsColumnsCall : Option Operation → ℕ → ℕ → List Kept → ℕ → Owned → Owned → Type 0
 IsColumnsCall operation first end ks code old new = IsKeptCall (kept_faults operation ks) (HasMadeColumns operation first end ks) code old new
 
--- the same of a selection, and of a matrix updated by another
+-- the same of a selection, of rows and columns by their numbers, and of a matrix updated by another
 unfoldable pub IsSelectionColumnsCall : Option Selection → ℕ → ℕ → List Kept → ℕ → Owned → Owned → Type 0
 IsSelectionColumnsCall selection first end ks code old new = IsKeptCall (selection_faults selection ks) (HasSelectedColumns selection first end ks) code old new
+
+unfoldable pub IsExtractColumnsCall : Option (List ℕ) → Option (List ℕ) → ℕ → ℕ → Kept → ℕ → Owned → Owned → Type 0
+IsExtractColumnsCall rows cols first end k code old new = IsKeptCall (number_faults rows cols (matrix_in k).shape) (IsKeptExtractColumns rows cols first end k) code old new
 
 unfoldable pub IsUpdateColumnsCall : Option WriteBack → ℕ → ℕ → Kept → Kept → Option Kept → ℕ → Owned → Owned → Type 0
 IsUpdateColumnsCall how first end a b mask code old new = IsKeptCall (update_faults how a b mask) (HasUpdatedColumns how first end a b mask) code old new
@@ -134,6 +139,21 @@ IsPanelCall first end a b code old new = IsKeptCall (factor_faults a b) (IsKeptP
 unfoldable pub IsMaskedPanelCall : Allowed → ℕ → ℕ → Kept → Kept → Kept → ℕ → Owned → Owned → Type 0
 IsMaskedPanelCall allowed first end a b mask code old new = IsKeptCall (outside_faults a b mask) (IsKeptMaskedPanel allowed first end a b mask) code old new
 
+-- ---- sums over columns by several threads
+-- what C gets of the call that lists what some columns add to the result of an operation
+unfoldable pub IsShareCall : Operation → ℕ → ℕ → List Kept → ℕ → Sums → Sums → Type 0
+IsShareCall operation first end ks code old new = IsCall (kept_faults (Some operation) ks) (IsKeptShare operation first end ks) code old new
+
+-- of the call that adds such a list to another
+unfoldable pub IsAddCall : Kept → List ℕ → ℕ → List ℕ → List ℕ → Type 0
+IsAddCall like more code old new =
+    IsCall (share_faults (arithmetic_of (semiring_of like)) old more) (AddsShare (arithmetic_of (semiring_of like)) old more) code old new
+
+-- of the call that keeps the column of a list
+unfoldable pub IsColumnCall : Kept → List ℕ → ℕ → Owned → Owned → Type 0
+IsColumnCall like list code old new =
+    IsKeptCall (sum_faults (arithmetic_of (semiring_of like)) (matrix_in like).shape.rows list) (IsKeptColumn like list) code old new
+
 -- of the call that joins two panels
 unfoldable pub IsJoinCall : Kept → Kept → ℕ → Owned → Owned → Type 0
 IsJoinCall front back code old new = IsKeptCall (join_faults front back) (IsKeptJoin front back) code old new
@@ -141,3 +161,8 @@ IsJoinCall front back code old new = IsKeptCall (join_faults front back) (IsKept
 -- the same of panels that C has owned so far
 abbrev pub IsOwnedJoinCall : Owned → Owned → ℕ → Owned → Owned → Type 0
 IsOwnedJoinCall front back code old new = IfSome front.kept (λ f. IfSome back.kept (λ b. IsJoinCall f.now b.now code old new))
+
+-- ---- a transpose kept beside a matrix
+-- what C gets of that call: it owns the matrix that it owned, and memory for the transpose may have been refused
+abbrev pub IsTransposeCall : Kept → ℕ → Owned → Type 0
+IsTransposeCall k code new = Has (λ x. x ≡ k) new × ((code ≡ 0) ⊎ (code ≡ code_of Memory))

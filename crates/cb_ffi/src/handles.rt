@@ -1,12 +1,12 @@
 //! A kept matrix as C holds it: one opaque pointer.
 //!
-//! The pointer is that of a [`Kept`] on the heap. C may pass it to any number of calls at once, and frees it once, when no
+//! The pointer is that of a [`KeptMatrix`] on the heap. C may pass it to any number of calls at once, and frees it once, when no
 //! call uses it any more. No proof can check that C does so.
 ghost use Rattle.std.specs.Prelude.{◌≡◌, Option, Some, IsSome};
 ghost use Rattle.std.specs.Borrow.{Bor, MutBor};
 ghost use Rattle.cb_kept.specs.declared.kept.Kept.{Kept as KeptValue};
 
-use cb_kept::Kept;
+use cb_kept::{Kept, KeptMatrix};
 use std::marker::Model;
 
 /// A kept matrix that C owns, or a place for one.
@@ -38,25 +38,32 @@ impl Model for Lent {
 }
 
 /// Hands a kept matrix to C.
-pub(crate) fn hand_out(kept: &'static mut Kept) -> Owned
+pub(crate) fn hand_out(kept: &'static mut KeptMatrix) -> Owned
     ensures { result.kept ≡ Some kept.entry }
 {
     Owned {
-        at: kept as *mut Kept as *mut u8,
+        at: kept as *mut KeptMatrix as *mut u8,
     }
 }
 
 /// Takes a kept matrix back from C.
-pub(crate) fn take_back(owned: Owned) -> &'static mut Kept
+pub(crate) fn take_back(owned: Owned) -> &'static mut KeptMatrix
     requires { IsSome owned.kept }
     ensures { owned.kept ≡ Some result }
 {
-    unsafe { &mut *(owned.at as *mut Kept) }
+    unsafe { &mut *(owned.at as *mut KeptMatrix) }
+}
+
+/// The kept matrix that C passes, with its transpose if that is kept.
+pub(crate) fn borrowed_with_transpose(lent: Lent) -> &'static KeptMatrix
+    ensures { result ≡ lent.kept }
+{
+    unsafe { &*(lent.at as *const KeptMatrix) }
 }
 
 /// The kept matrix that C passes.
 pub(crate) fn borrowed(lent: Lent) -> &'static Kept
-    ensures { result ≡ lent.kept }
+    ensures { result.now ≡ lent.kept.now }
 {
-    unsafe { &*(lent.at as *const Kept) }
+    borrowed_with_transpose(lent).matrix()
 }

@@ -16,7 +16,9 @@
 //! Each call works on the caller's thread. A program with threads divides the columns of a result
 //! ([`cbgrid_kernel_kept_entry_ends`], [`cbgrid_kernel_kept_ends`] for a product), makes those of a range in each thread
 //! ([`cbgrid_kernel_kept_add_columns`], [`cbgrid_kernel_kept_panel`], [`cbgrid_kernel_kept_masked_panel`] and so on), and
-//! joins them in order ([`cbgrid_kernel_kept_join`]).
+//! joins them in order ([`cbgrid_kernel_kept_join`]). Where the result is a sum over the columns of the first matrix, each thread
+//! makes a share of the sum ([`cbgrid_kernel_kept_vector_share`], [`cbgrid_kernel_kept_row_sums_share`],
+//! [`cbgrid_kernel_kept_total_share`]), and the program adds these up in order ([`cbgrid_kernel_kept_add_share`]).
 #![tactic(auto)]
 
 ghost use Rattle.std.specs.Prelude.{◌≡◌, ◌≢◌, [], ◌∷◌, length, ◌==◌, not, Option, Some, None, IfSome, IsSome, IfOk, IfErr, option_copied};
@@ -36,19 +38,22 @@ ghost use Rattle.cb_operations.specs.declared.selections.Selection.TheVariants a
 ghost use Rattle.cb_operations.specs.SelectionAnswers as selections;
 ghost use Rattle.cb_kept.specs.KeptSelections.{function_of, IsPowerOf, region_of};
 ghost use Rattle.cb_kept.specs.KeptUpdates.{write_back_of};
+ghost use Rattle.cb_shares.specs.Shares.{panel};
+ghost use Rattle.cb_shares.specs.Sums.{IsSumOfColumns};
 ghost use Rattle.cb_kept.specs.declared.kept_masked_panels.Allowed.TheVariants as allowed_is;
 ghost use Rattle.cb_kept.specs.KeptTexts.{IsKeptText};
 ghost use Rattle.cb_kept.specs.Misfits.{IsFirst, IsFrom, IsMisfitOfLists, IsMisfitOfTriples};
 ghost use Rattle.cb_ffi.specs.Calls.{IsCall, IsLine};
-ghost use Rattle.cb_ffi.specs.KeptCalls.{HasHandedOut, HasWritten, IsColumnsCall, IsEndsCall, IsEntryEndsCall, IsExtractCall, IsGraphCall, IsJoinCall, IsKeepCall, IsKeptOperation, IsMaskedPanelCall, IsOutsideCall, IsOwnedJoinCall, IsPanelCall, IsReadCall, IsSelectionCall, IsSelectionColumnsCall, IsTriplesCall, IsTurnedCall, IsUpdateCall, IsUpdateColumnsCall, unless_all};
+ghost use Rattle.cb_ffi.specs.KeptCalls.{HasHandedOut, HasWritten, IsAddCall, IsColumnCall, IsColumnsCall, IsEndsCall, IsEntryEndsCall, IsExtractCall, IsExtractColumnsCall, IsGraphCall, IsJoinCall, IsKeepCall, IsKeptOperation, IsMaskedPanelCall, IsOutsideCall, IsOwnedJoinCall, IsPanelCall, IsReadCall, IsSelectionCall, IsSelectionColumnsCall, IsShareCall, IsTransposeCall, IsTriplesCall, IsTurnedCall, IsUpdateCall, IsUpdateColumnsCall, unless_all};
 
 mod handles;
 
 use cb_kept::{
-    Allowed, Fault, Kept, KeptAnswer, Summary, Text, Triple, first_outside, function_of,
-    graph_task_of, keep_lists, keep_triples, kept_columns, kept_ends, kept_entry_ends,
-    kept_extract, kept_graph, kept_join, kept_masked_panel, kept_outside, kept_panel,
-    kept_selection, kept_selection_columns, kept_total, kept_turned_product, kept_update,
+    Allowed, Fault, Kept, KeptAnswer, KeptMatrix, Summary, Sums, Text, Triple, first_outside,
+    function_of, graph_task_of, keep_lists, keep_triples, kept_add_share, kept_column_of_sums,
+    kept_columns, kept_ends, kept_entry_ends, kept_extract, kept_extract_columns, kept_graph,
+    kept_join, kept_masked_panel, kept_outside, kept_panel, kept_selection, kept_selection_columns,
+    kept_share_of_sum, kept_total, kept_total_of_columns, kept_turned_product, kept_update,
     kept_update_columns, lists_of, misfit_of_lists, misfit_of_triples, operate, power_of, prune_of,
     read_kept, region_of, summary_of, text_of, value_at, write_back_of,
 };
@@ -56,7 +61,7 @@ use cb_lists::Columns;
 use cb_operations::{Operation, Selection};
 use cb_selections::WriteBack;
 pub use handles::{Lent, Owned};
-use handles::{borrowed, hand_out, take_back};
+use handles::{borrowed, borrowed_with_transpose, hand_out, take_back};
 use std::alloc::Global;
 
 /// Writes a result to `out`, or returns the number of the fault.
@@ -82,7 +87,7 @@ fn put_kept(alloc: Global, out: &mut Owned, answer: Result<Kept, Fault>) -> u32
         Ok(kept) => kept,
         Err(fault) => return fault.code(),
     };
-    match Box::new(alloc, kept) {
+    match Box::new(alloc, KeptMatrix::new(kept)) {
         Ok(on_heap) => {
             *out = hand_out(Box::leak(on_heap));
             0
@@ -211,6 +216,42 @@ fn columns_kept(
     put_kept(alloc, out, answer)
 }
 
+/// Lists what some columns of the first of kept matrices add to the result of an operation, or returns the number of the fault.
+fn share_kept(
+    alloc: Global,
+    operation: Operation,
+    operands: &[&Kept],
+    first: u32,
+    end: u32,
+    out: &mut Sums,
+) -> u32
+    requires sum { IsSumOfColumns operation }
+    requires count { length operands.now ≡ operand_count_of operation }
+    ensures { IsShareCall operation first end (lent_in operands.now) result out.old out.new }
+{
+    put(
+        out,
+        kept_share_of_sum(alloc, operation, operands, first, end),
+    )
+}
+
+/// Adds a list to another, or returns the number of the fault.
+fn add_kept(like: &Kept, sums: &mut [u64], more: &[u64]) -> u32
+    ensures { IsAddCall like.now more.now result sums.old sums.new }
+{
+    match kept_add_share(like, sums, more) {
+        Ok(()) => 0,
+        Err(fault) => fault.code(),
+    }
+}
+
+/// Keeps the column of a list, or returns the number of the fault.
+fn column_kept(alloc: Global, like: &Kept, list: &[u64], out: &mut Owned) -> u32
+    ensures { IsColumnCall like.now list.now result out.old out.new }
+{
+    put_kept(alloc, out, kept_column_of_sums(alloc, like, list))
+}
+
 /// Keeps some columns of a selection from kept matrices, or returns the number of the fault.
 fn selection_columns_kept(
     alloc: Global,
@@ -264,8 +305,8 @@ fn masked_panel_kept(
 /// Joins two panels where the first of them is, or frees the lists of both and returns the number of the fault.
 fn join_kept(
     alloc: Global,
-    front: &'static mut Kept,
-    back: &'static mut Kept,
+    front: &'static mut KeptMatrix,
+    back: &'static mut KeptMatrix,
     out: &mut Owned,
 ) -> u32
     ensures { IsJoinCall front.old back.old result out.old out.new }
@@ -280,6 +321,18 @@ fn join_kept(
             back.clear(alloc);
             fault.code()
         }
+    }
+}
+
+/// Keeps the transpose of a matrix beside it, where it is, or returns the number of the fault.
+fn keep_transpose(alloc: Global, kept: &'static mut KeptMatrix, out: &mut Owned) -> u32
+    ensures { IsTransposeCall kept.old result out.new }
+{
+    let done = kept.keep_transpose(alloc);
+    *out = hand_out(kept);
+    match done {
+        Ok(()) => 0,
+        Err(fault) => fault.code(),
     }
 }
 
@@ -633,7 +686,8 @@ pub extern "C" fn cbgrid_kernel_kept_graph(
     ensures { IsGraphCall (graph_task_of task source) a.kept.now sources.now values.kept.now result (out.old, count.old) (out.new, count.new) }
 {
     let task = graph_task_of(task, source);
-    let answer = kept_graph(alloc, task, borrowed(a), sources, borrowed(values));
+    let graph = borrowed_with_transpose(a);
+    let answer = kept_graph(alloc, task, graph, sources, borrowed(values));
     put_answer(alloc, out, count, answer)
 }
 
@@ -883,6 +937,43 @@ pub extern "C" fn cbgrid_kernel_kept_exclude_columns(
     selection_columns_kept(alloc, exclude, &operands, first, end, out)
 }
 
+/// The Kronecker product of two kept matrices, in the columns of a range.
+#[unsafe(no_mangle)]
+pub extern "C" fn cbgrid_kernel_kept_kronecker_columns(
+    alloc: Global,
+    a: Lent,
+    b: Lent,
+    first: u32,
+    end: u32,
+    out: &mut Owned,
+) -> u32
+    ensures { IsSelectionColumnsCall (Some selection_is.Kronecker) first end (a.kept.now ∷ b.kept.now ∷ []) result out.old out.new }
+{
+    let (operands, kronecker) = ([borrowed(a), borrowed(b)], Some(Selection::Kronecker));
+    selection_columns_kept(alloc, kronecker, &operands, first, end, out)
+}
+
+/// The rows and columns of a kept matrix by their numbers ([`cbgrid_kernel_kept_extract`]), in the columns of a range.
+#[unsafe(no_mangle)]
+pub extern "C" fn cbgrid_kernel_kept_extract_columns(
+    alloc: Global,
+    a: Lent,
+    all_rows: u32,
+    rows: &[u32],
+    all_columns: u32,
+    columns: &[u32],
+    first: u32,
+    end: u32,
+    out: &mut Owned,
+) -> u32
+    ensures { IsExtractColumnsCall (unless_all all_rows rows.now) (unless_all all_columns columns.now) first end a.kept.now result out.old out.new }
+{
+    let rows = unless_all(all_rows, rows);
+    let columns = unless_all(all_columns, columns);
+    let answer = kept_extract_columns(alloc, borrowed(a), rows, columns, first, end);
+    put_kept(alloc, out, answer)
+}
+
 /// The columns of a range of a kept matrix, updated at all places by a new one.
 #[unsafe(no_mangle)]
 pub extern "C" fn cbgrid_kernel_kept_update_columns(
@@ -981,6 +1072,67 @@ pub extern "C" fn cbgrid_kernel_kept_outside_panel(
     masked_panel_kept(alloc, Allowed::Others, a, b, mask, first, end, out)
 }
 
+/// Lists what the columns of a kept matrix from `first` up to, but not including, `end` add to its product with a vector: a number
+/// for each row. The list belongs to the caller.
+#[unsafe(no_mangle)]
+pub extern "C" fn cbgrid_kernel_kept_vector_share(
+    alloc: Global,
+    a: Lent,
+    x: Lent,
+    first: u32,
+    end: u32,
+    out: &mut Sums,
+) -> u32
+    ensures { IsShareCall operation_is.MultiplyVector first end (a.kept.now ∷ x.kept.now ∷ []) result out.old out.new }
+{
+    let operands = [borrowed(a), borrowed(x)];
+    share_kept(alloc, Operation::MultiplyVector, &operands, first, end, out)
+}
+
+/// Lists what these columns of a kept matrix add to the sums of its rows. The list belongs to the caller.
+#[unsafe(no_mangle)]
+pub extern "C" fn cbgrid_kernel_kept_row_sums_share(
+    alloc: Global,
+    a: Lent,
+    first: u32,
+    end: u32,
+    out: &mut Sums,
+) -> u32
+    ensures { IsShareCall operation_is.RowSums first end (a.kept.now ∷ []) result out.old out.new }
+{
+    share_kept(alloc, Operation::RowSums, &[borrowed(a)], first, end, out)
+}
+
+/// Adds up all values of a kept matrix in these columns. Takes no memory.
+#[unsafe(no_mangle)]
+pub extern "C" fn cbgrid_kernel_kept_total_share(a: Lent, first: u32, end: u32) -> u64
+    ensures { result ≡ matrix_total (arithmetic_of (semiring_of a.kept.now)) (panel (matrix_in a.kept.now) first end) }
+{
+    kept_total_of_columns(borrowed(a), first, end)
+}
+
+/// Adds a share of a sum to that of the columns before it, over the semiring of a kept matrix: two lists of one length, or the
+/// sums of all values, as lists of a single number. At a fault nothing changes.
+#[unsafe(no_mangle)]
+pub extern "C" fn cbgrid_kernel_kept_add_share(like: Lent, sums: &mut [u64], more: &[u64]) -> u32
+    ensures { IsAddCall like.kept.now more.now result sums.old sums.new }
+{
+    add_kept(borrowed(like), sums, more)
+}
+
+/// Keeps the column that has the values of a list, one for each row of a kept matrix, over its semiring.
+#[unsafe(no_mangle)]
+pub extern "C" fn cbgrid_kernel_kept_column_of_sums(
+    alloc: Global,
+    like: Lent,
+    sums: &[u64],
+    out: &mut Owned,
+) -> u32
+    ensures { IsColumnCall like.kept.now sums.now result out.old out.new }
+{
+    column_kept(alloc, borrowed(like), sums, out)
+}
+
 /// Joins two panels of a product: puts the entries of a kept matrix behind those of another, whose columns are all before its
 /// own. Takes both back, and copies no entry. The result is at the pointer of the first. The caller then
 /// frees the memory at the pointer of the second, and at a fault that at the pointer of the first too.
@@ -996,6 +1148,16 @@ pub extern "C" fn cbgrid_kernel_kept_join(
     ensures { IsOwnedJoinCall front back result out.old out.new }
 {
     join_kept(alloc, take_back(front), take_back(back), out)
+}
+
+/// Keeps the transpose of a kept matrix beside it, which searches from sources then use. Takes the matrix back and hands it
+/// out again, at the same pointer, also if memory for the transpose is refused. No other call may use the matrix meanwhile.
+#[unsafe(no_mangle)]
+pub extern "C" fn cbgrid_kernel_keep_transpose(alloc: Global, a: Owned, out: &mut Owned) -> u32
+    requires { IsSome a.kept }
+    ensures { IfSome a.kept (λ k. IsTransposeCall k.now result out.new) }
+{
+    keep_transpose(alloc, take_back(a), out)
 }
 
 /// Frees the lists of a kept matrix. The caller then frees the memory at the pointer.

@@ -12,9 +12,9 @@ use cb_dcsc::Block;
 use cb_matrix::Matrix;
 use cb_operations::GraphTask;
 use cb_searches::{
-    Walks, distances, distances_from, distances_given, levels, levels_from, levels_given, parents,
+    distances, distances_from, distances_given, levels, levels_from, levels_given, parents,
 };
-use cb_semirings::{MinPlus, OrAnd, PlusTimes};
+use cb_semirings::{MinPlus, OrAnd, PlusTimes, Semiring};
 use std::alloc::{AllocError, Global};
 
 /// What a task takes beside its graph.
@@ -44,8 +44,9 @@ pub enum GraphAnswer {
 }
 
 /// A semiring of graphs: or-and, or min-plus if edges have weights.
-pub trait GraphSemiring: Walks {
-    ghost use Rattle.std.specs.Prelude.{IfOk};
+pub trait GraphSemiring: Semiring {
+    ghost use Rattle.std.specs.Prelude.{◌≡◌, IfOk, IfSome};
+    ghost use Rattle.cb_matrix.specs.Operations.{transposed};
     ghost use Rattle.cb_operations.specs.declared.graphs.GraphTask.{GraphTask};
     ghost use Rattle.cb_operations.specs.Graphs.{Suits};
     ghost use Rattle.cb_graphs.specs.GraphAnswers.{Fits, IsAnswerOf, value_of};
@@ -53,15 +54,18 @@ pub trait GraphSemiring: Walks {
     /// The graph of a task is over it.
     ghost is_of: { GraphTask → Type 0 };
 
-    /// Computes a task. The cost is that of its function: [`levels`], [`components`] and so on.
-    fn compute(
+    /// Computes a task, given the transpose of its graph as `turned` if the caller has it: searches from sources use it. The
+    /// cost is that of its function: [`levels`], [`components`] and so on.
+    fn compute<'g>(
         alloc: Global,
         task: GraphTask,
-        graph: &Block<Self>,
+        graph: &'g Block<Self>,
+        turned: Option<&'g Block<Self>>,
         operand: &GraphOperand<'_>,
     ) -> Result<GraphAnswer, AllocError>
         requires over { is_of task }
         requires suits { Suits task graph.now.shape }
+        requires turned { IfSome turned (λ t. t.now ≡ transposed Self.arithmetic graph.now) }
         requires operand { Fits task graph.now.shape (value_of operand.now) }
         ensures { IfOk result (IsAnswerOf task graph.now (value_of operand.now)) };
 }
@@ -69,21 +73,22 @@ pub trait GraphSemiring: Walks {
 impl GraphSemiring for OrAnd {
     ghost is_of = { λ task. semiring_of task ≡ name_is.OrAnd };
 
-    fn compute(
+    fn compute<'g>(
         alloc: Global,
         task: GraphTask,
-        graph: &Block<OrAnd>,
+        graph: &'g Block<OrAnd>,
+        turned: Option<&'g Block<OrAnd>>,
         operand: &GraphOperand<'_>,
     ) -> Result<GraphAnswer, AllocError> {
         match task {
             GraphTask::Levels { source } => {
-                Ok(GraphAnswer::Numbers(levels(alloc, graph, source)?))
+                Ok(GraphAnswer::Numbers(levels(alloc, graph, turned, source)?))
             }
             GraphTask::LevelsFrom => {
                 let GraphOperand::Sources(sources) = operand else {
                     unreachable!()
                 };
-                Ok(GraphAnswer::Columns(levels_from(alloc, graph, sources)?))
+                Ok(GraphAnswer::Columns(levels_from(alloc, graph, turned, sources)?))
             }
             GraphTask::LevelsGiven => {
                 let GraphOperand::Values(values) = operand else {
@@ -92,7 +97,7 @@ impl GraphSemiring for OrAnd {
                 Ok(GraphAnswer::Numbers(levels_given(alloc, graph, values)?))
             }
             GraphTask::Parents { source } => {
-                Ok(GraphAnswer::Vertices(parents(alloc, graph, source)?))
+                Ok(GraphAnswer::Vertices(parents(alloc, graph, turned, source)?))
             }
             GraphTask::Components => Ok(GraphAnswer::Vertices(components(alloc, graph)?)),
             GraphTask::Triangles => Ok(GraphAnswer::Count(triangles(alloc, graph)?)),
@@ -109,21 +114,22 @@ impl GraphSemiring for OrAnd {
 impl GraphSemiring for MinPlus {
     ghost is_of = { λ task. semiring_of task ≡ name_is.MinPlus };
 
-    fn compute(
+    fn compute<'g>(
         alloc: Global,
         task: GraphTask,
-        graph: &Block<MinPlus>,
+        graph: &'g Block<MinPlus>,
+        turned: Option<&'g Block<MinPlus>>,
         operand: &GraphOperand<'_>,
     ) -> Result<GraphAnswer, AllocError> {
         match task {
             GraphTask::Distances { source } => {
-                Ok(GraphAnswer::Numbers(distances(alloc, graph, source)?))
+                Ok(GraphAnswer::Numbers(distances(alloc, graph, turned, source)?))
             }
             GraphTask::DistancesFrom => {
                 let GraphOperand::Sources(sources) = operand else {
                     unreachable!()
                 };
-                Ok(GraphAnswer::Columns(distances_from(alloc, graph, sources)?))
+                Ok(GraphAnswer::Columns(distances_from(alloc, graph, turned, sources)?))
             }
             GraphTask::DistancesGiven => {
                 let GraphOperand::Values(values) = operand else {

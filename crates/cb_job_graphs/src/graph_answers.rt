@@ -35,7 +35,7 @@ fn answer_alone<S: GraphSemiring + Based + Send + Sync, R: Threads + Sync>(
     ensures { HasAnswer beside_is.Nothing S.arithmetic task texts.items result }
 {
     let graph = graph_alone::<S, R>(rt, alloc, threads, task, texts)?;
-    let answer = S::compute(alloc, task, &graph, &GraphOperand::Nothing)?;
+    let answer = S::compute(alloc, task, &graph, None, &GraphOperand::Nothing)?;
     Ok(answer)
 }
 
@@ -53,7 +53,7 @@ fn answer_from<S: GraphSemiring + Based + Send + Sync, R: Threads + Sync>(
     ensures { HasAnswer beside_is.Sources S.arithmetic task texts.items result }
 {
     let (graph, sources) = graph_with_sources::<S, R>(rt, alloc, threads, task, texts)?;
-    let answer = S::compute(alloc, task, &graph, &GraphOperand::Sources(&sources))?;
+    let answer = S::compute(alloc, task, &graph, None, &GraphOperand::Sources(&sources))?;
     Ok(answer)
 }
 
@@ -71,7 +71,7 @@ fn answer_given<S: GraphSemiring + Based + Send + Sync, R: Threads + Sync>(
     ensures { HasAnswer beside_is.Values S.arithmetic task texts.items result }
 {
     let (graph, values) = graph_with_values::<S, R>(rt, alloc, threads, task, texts)?;
-    let answer = S::compute(alloc, task, &graph, &GraphOperand::Values(&values))?;
+    let answer = S::compute(alloc, task, &graph, None, &GraphOperand::Values(&values))?;
     Ok(answer)
 }
 

@@ -2,7 +2,9 @@
 use Rattle.std.specs.Prelude.{◌≡◌, List, [], ◌∷◌, All}
 use Rattle.cb_semirings.specs.declared.names.SemiringName.{SemiringName}
 use Rattle.cb_semirings.specs.declared.names.SemiringName.TheVariants as name_is
+use Rattle.cb_semirings.specs.Names.{arithmetic_of}
 use Rattle.cb_matrix.specs.Sparse.{Sparse}
+use Rattle.cb_matrix.specs.Operations.{transposed}
 use Rattle.cb_kept.specs.declared.kept.Kept.{Kept}
 use Rattle.cb_kept.specs.declared.kept.Kept.TheVariants.{PlusTimes, MinPlus, OrAnd, MaxMin, PlusPair, PlusMin, PlusFirst, PlusSecond, MinFirst, MinSecond, MaxFirst, MaxSecond, MaxPlus, MinMax}
 
@@ -53,3 +55,12 @@ semiring_in (k ∷ ks) = semiring_of k
 -- all of them are over one semiring
 abbrev pub AreOver : SemiringName → List Kept → Type 0
 AreOver name ks = All (λ k. semiring_of k ≡ name) ks
+
+-- the matrix without rows, columns and entries, over plus-times
+abbrev pub nothing : Kept
+nothing = PlusTimes (record { shape = record { rows = 0; cols = 0 }; entries = [] })
+
+-- a kept matrix is the transpose of another, over its semiring
+pub record IsTransposeOf (k turned : Kept) : Type 0 where
+  pub semiring : semiring_of turned ≡ semiring_of k
+  pub matrix : matrix_in turned ≡ transposed (arithmetic_of (semiring_of k)) (matrix_in k)

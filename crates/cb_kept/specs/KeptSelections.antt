@@ -91,3 +91,13 @@ IsExtractOf name s rows cols m = IsAnswer (number_faults rows cols m.shape) (Kee
 -- those of a kept matrix, or a fault
 abbrev pub IsExtractAnswer : Option (List ℕ) → Option (List ℕ) → Kept → Result Kept Fault → Type 0
 IsExtractAnswer rows cols k = IsAnswer (number_faults rows cols (matrix_in k).shape) (IsKeptExtract rows cols k)
+
+-- some columns of those of a kept matrix, and of those of a matrix, kept over a semiring, or a fault
+abbrev pub IsKeptExtractColumns : Option (List ℕ) → Option (List ℕ) → ℕ → ℕ → Kept → Kept → Type 0
+IsKeptExtractColumns rows cols first end k made = IsKeptMade (λ s a. panel (extracted_by s rows cols a) first end) k made
+
+abbrev pub IsExtractColumnsOf : SemiringName → Arithmetic → Option (List ℕ) → Option (List ℕ) → ℕ → ℕ → Sparse → Result Kept Fault → Type 0
+IsExtractColumnsOf name s rows cols first end m = IsAnswer (number_faults rows cols m.shape) (Keeps name (panel (extracted_by s rows cols m) first end))
+
+abbrev pub IsExtractColumnsAnswer : Option (List ℕ) → Option (List ℕ) → ℕ → ℕ → Kept → Result Kept Fault → Type 0
+IsExtractColumnsAnswer rows cols first end k = IsAnswer (number_faults rows cols (matrix_in k).shape) (IsKeptExtractColumns rows cols first end k)

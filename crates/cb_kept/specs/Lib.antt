@@ -2,7 +2,7 @@
 -- Kept: kept matrices. CallsOver: any call on them, by what it is over one semiring. KeptAnswers: what an operation on them
 -- returns. Triples: matrices of triples. KeptTexts: texts of kept matrices. KeptGraphs: tasks on kept graphs. KeptSelections:
 -- selections from kept matrices. KeptProducts: products outside a mask. KeptTurned: products of transposes. KeptPanels:
--- products in panels. KeptUpdates: one updated by another, under a mask. Misfits: what a fault of lists or triples is about.
+-- products in panels. KeptSums: shares of sums over columns. KeptUpdates: one updated by another, under a mask. Misfits: what a fault of lists or triples is about.
 pub mod Refusals
 pub mod Answers
 pub mod Kept
@@ -17,4 +17,5 @@ pub mod KeptUpdates
 pub mod KeptProducts
 pub mod KeptPanels
 pub mod KeptShares
+pub mod KeptSums
 pub mod Misfits

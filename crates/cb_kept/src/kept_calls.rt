@@ -7,8 +7,7 @@ ghost use Rattle.cb_kept.specs.Kept.{AreOver, semiring_of, matrix_in};
 ghost use Rattle.cb_kept.specs.CallsOver.{IsCallOverCommon, IsCallOver};
 
 use crate::faults::Fault;
-use crate::keeping::Keep;
-use crate::kept::Kept;
+use crate::kept::{Keep, Kept};
 use crate::kept_checks::one_semiring;
 use cb_layout::PanelledMatrix;
 use cb_semirings::{SemiringName, over_semiring};

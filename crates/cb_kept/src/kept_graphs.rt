@@ -1,5 +1,7 @@
 //! Tasks on kept graphs, by numbers, and their answers. The graph is borrowed; the kernels copy or transpose only what they need.
-ghost use Rattle.std.specs.Prelude.{◌≡◌, IfOk, IfErr};
+ghost use Rattle.std.specs.Prelude.{◌≡◌, IfOk, IfErr, IfSome};
+ghost use Rattle.cb_semirings.specs.Names.{arithmetic_of};
+ghost use Rattle.cb_matrix.specs.Operations.{transposed};
 ghost use Rattle.cb_operations.specs.declared.graphs.Beside.TheVariants as beside_is;
 ghost use Rattle.cb_operations.specs.Graphs as graphs;
 ghost use Rattle.cb_operations.specs.Graphs.{Suits, beside_of};
@@ -11,8 +13,8 @@ ghost use Rattle.cb_kept.specs.Refusals.{IsMemory};
 
 use crate::faults::Fault;
 use crate::incoming::matrix_block;
-use crate::keeping::{Keep, keep_block};
-use crate::kept::{Kept, of_matrix};
+use crate::kept::{Keep, Kept, keep_block, of_matrix};
+use crate::kept_matrices::KeptMatrix;
 use cb_dcsc::Block;
 use cb_graphs::{GraphAnswer, GraphOperand, GraphSemiring, column_degrees, row_degrees};
 use cb_layout::PanelledMatrix;
@@ -79,61 +81,74 @@ fn computed<S: GraphSemiring>(
     alloc: Global,
     task: GraphTask,
     graph: &PanelledMatrix<S>,
+    turned: Option<&PanelledMatrix<S>>,
     operand: &GraphOperand<'_>,
 ) -> Result<KeptAnswer, AllocError>
     requires over { S.is_of task }
     requires suits { Suits task graph.now.shape }
+    requires turned { IfSome turned (λ t. t.now ≡ transposed S.arithmetic graph.now) }
     requires operand { Fits task graph.now.shape (value_of operand.now) }
     ensures { IfOk result (IsKeptAnswer task graph.now (value_of operand.now)) }
 {
     let whole = graph.whole()?;
-    let answer = S::compute(alloc, task, whole.block(), operand)?;
+    let turned = match turned {
+        Some(turned) => Some(turned.whole()?),
+        None => None,
+    };
+    let turned = turned.as_ref().map(|it| it.block());
+    let answer = S::compute(alloc, task, whole.block(), turned, operand)?;
     keep_answer(alloc, answer)
 }
 
-/// The answer of a task that takes nothing beside its graph.
+/// The answer of a task that takes nothing beside its graph, given the transpose of the graph if that is kept.
 fn answer_alone<S: GraphSemiring>(
     alloc: Global,
     task: GraphTask,
     graph: &PanelledMatrix<S>,
+    turned: Option<&PanelledMatrix<S>>,
 ) -> Result<KeptAnswer, Fault>
     requires over { S.is_of task }
     requires beside { beside_of task ≡ beside_is.Nothing }
     requires suits { Suits task graph.now.shape }
+    requires turned { IfSome turned (λ t. t.now ≡ transposed S.arithmetic graph.now) }
     ensures { IsAnswer IsMemory (IsKeptAnswer task graph.now NoOperand) result }
 {
-    Ok(computed(alloc, task, graph, &GraphOperand::Nothing)?)
+    Ok(computed(alloc, task, graph, turned, &GraphOperand::Nothing)?)
 }
 
-/// The answer of a task from several sources, or the first fault of these.
+/// The answer of a task from several sources, or the first fault of these, given the transpose of the graph if that is kept.
 fn answer_from<S: GraphSemiring>(
     alloc: Global,
     task: GraphTask,
     graph: &PanelledMatrix<S>,
+    turned: Option<&PanelledMatrix<S>>,
     sources: &[u32],
 ) -> Result<KeptAnswer, Fault>
     requires over { S.is_of task }
     requires beside { beside_of task ≡ beside_is.Sources }
     requires suits { Suits task graph.now.shape }
+    requires turned { IfSome turned (λ t. t.now ≡ transposed S.arithmetic graph.now) }
     ensures { IsAnswer (sources_faults sources.now graph.now.shape) (IsKeptAnswer task graph.now (SourceList sources.now)) result }
 {
     if sources.len() > LIMIT as usize {
         return Err(Fault::TooLarge);
     }
     check_sources(graph.shape(), sources)?;
-    Ok(computed(alloc, task, graph, &GraphOperand::Sources(sources))?)
+    Ok(computed(alloc, task, graph, turned, &GraphOperand::Sources(sources))?)
 }
 
-/// The answer of a task from initial values, or the first fault of these.
+/// The answer of a task from initial values, or the first fault of these, given the transpose of the graph if that is kept.
 fn answer_given<S: GraphSemiring>(
     alloc: Global,
     task: GraphTask,
     graph: &PanelledMatrix<S>,
+    turned: Option<&PanelledMatrix<S>>,
     values: &Kept,
 ) -> Result<KeptAnswer, Fault>
     requires over { S.is_of task }
     requires beside { beside_of task ≡ beside_is.Values }
     requires suits { Suits task graph.now.shape }
+    requires turned { IfSome turned (λ t. t.now ≡ transposed S.arithmetic graph.now) }
     ensures { IsAnswer (values_faults values.now graph.now.shape) (IsKeptAnswer task graph.now (ValueColumn (matrix_in values.now))) result }
 {
     let Some(column) = MinPlus::panels_of(values) else {
@@ -141,7 +156,13 @@ fn answer_given<S: GraphSemiring>(
     };
     check_values(graph.shape(), column.shape())?;
     let whole = column.whole()?;
-    Ok(computed(alloc, task, graph, &GraphOperand::Values(whole.block()))?)
+    Ok(computed(
+        alloc,
+        task,
+        graph,
+        turned,
+        &GraphOperand::Values(whole.block()),
+    )?)
 }
 
 /// The panels of a graph over a semiring that suits a task, or else the first fault of the graph.
@@ -158,22 +179,34 @@ fn graph_in<S: Keep>(task: GraphTask, kept: &Kept) -> Result<&PanelledMatrix<S>,
     Ok(graph)
 }
 
-/// The answer of a task on a graph that has to be over a semiring.
+/// The panels of the transpose of a kept matrix, if that is kept, and is over a semiring.
+fn turned_in<S: Keep>(kept: &KeptMatrix) -> Option<&PanelledMatrix<S>>
+    ensures { IfSome result (λ turned. turned.now ≡ transposed (arithmetic_of S.name) (matrix_in kept.now)) }
+{
+    match kept.turned() {
+        Some(turned) => S::panels_of(turned),
+        None => None,
+    }
+}
+
+/// The answer of a task on a graph that has to be over a semiring, given its transpose if that is kept.
 fn answer_over<S: GraphSemiring + Keep>(
     alloc: Global,
     task: GraphTask,
     graph: &Kept,
+    turned: Option<&PanelledMatrix<S>>,
     sources: &[u32],
     values: &Kept,
 ) -> Result<KeptAnswer, Fault>
-    requires { S.is_of task }
+    requires over { S.is_of task }
+    requires turned { IfSome turned (λ t. t.now ≡ transposed S.arithmetic (matrix_in graph.now)) }
     ensures { IsAnsweredOver S.name task graph.now sources.now values.now result }
 {
     let panels = graph_in::<S>(task, graph)?;
     match task.beside() {
-        Beside::Nothing => answer_alone(alloc, task, panels),
-        Beside::Sources => answer_from(alloc, task, panels, sources),
-        Beside::Values => answer_given(alloc, task, panels, values),
+        Beside::Nothing => answer_alone(alloc, task, panels, turned),
+        Beside::Sources => answer_from(alloc, task, panels, turned, sources),
+        Beside::Values => answer_given(alloc, task, panels, turned, values),
     }
 }
 
@@ -181,16 +214,19 @@ fn answer_over<S: GraphSemiring + Keep>(
 fn answer_of(
     alloc: Global,
     task: GraphTask,
-    graph: &Kept,
+    graph: &KeptMatrix,
     sources: &[u32],
     values: &Kept,
 ) -> Result<KeptAnswer, Fault>
     ensures { IsAnsweredOver (graphs.semiring_of task) task graph.now sources.now values.now result }
 {
+    let matrix = graph.matrix();
     if task.semiring() == SemiringName::MinPlus {
-        answer_over::<MinPlus>(alloc, task, graph, sources, values)
+        let turned = turned_in::<MinPlus>(graph);
+        answer_over(alloc, task, matrix, turned, sources, values)
     } else {
-        answer_over::<OrAnd>(alloc, task, graph, sources, values)
+        let turned = turned_in::<OrAnd>(graph);
+        answer_over(alloc, task, matrix, turned, sources, values)
     }
 }
 
@@ -233,15 +269,15 @@ fn kept_degrees(alloc: Global, task: GraphTask, kept: &Kept) -> Result<KeptAnswe
 fn known_graph(
     alloc: Global,
     task: GraphTask,
-    graph: &Kept,
+    graph: &KeptMatrix,
     sources: &[u32],
     values: &Kept,
 ) -> Result<KeptAnswer, Fault>
     ensures { IsAnswer (task_faults task graph.now sources.now values.now) (IsTaskAnswer task graph.now sources.now values.now) result }
 {
     match task {
-        GraphTask::RowDegrees => kept_degrees(alloc, task, graph),
-        GraphTask::ColumnDegrees => kept_degrees(alloc, task, graph),
+        GraphTask::RowDegrees => kept_degrees(alloc, task, graph.matrix()),
+        GraphTask::ColumnDegrees => kept_degrees(alloc, task, graph.matrix()),
         _ => answer_of(alloc, task, graph, sources, values),
     }
 }
@@ -253,11 +289,12 @@ fn known_graph(
 /// The faults in order: no task; a graph over another semiring than the task's ([`GraphTask::semiring`]), one that isn't square,
 /// one without the source; more sources than a matrix can have columns, a source that isn't a vertex; initial values over
 /// another semiring than min-plus, or that aren't a column with a place for each vertex. Degrees take a matrix over any semiring
-/// and of any shape. The cost is that of the task: see [`GraphSemiring::compute`].
+/// and of any shape. The cost is that of the task: see [`GraphSemiring::compute`]. Searches from sources use the transpose of
+/// the graph if it is [kept](KeptMatrix::keep_transpose).
 pub fn kept_graph(
     alloc: Global,
     task: Option<GraphTask>,
-    graph: &Kept,
+    graph: &KeptMatrix,
     sources: &[u32],
     values: &Kept,
 ) -> Result<KeptAnswer, Fault>

@@ -7,8 +7,7 @@ ghost use Rattle.cb_kept.specs.KeptAnswers.{IsKeptAnswerOver, IsKeptOf};
 
 use crate::checks::check_lists;
 use crate::faults::Fault;
-use crate::keeping::{Keep, keep_block};
-use crate::kept::{Kept, of_matrix};
+use crate::kept::{Keep, Kept, keep_block, of_matrix};
 use cb_layout::PanelledMatrix;
 use cb_lists::{Columns, block_lists, block_of};
 use cb_semirings::{Semiring, SemiringName, over_semiring};

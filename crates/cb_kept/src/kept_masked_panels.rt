@@ -8,8 +8,7 @@ ghost use Rattle.cb_kept.specs.KeptPanels.{allowed_by, IsKeptMaskedPanel};
 ghost use Rattle.cb_kept.specs.KeptProducts.{outside_faults, IsKeptOutside};
 
 use crate::faults::Fault;
-use crate::keeping::{Keep, keep_block};
-use crate::kept::Kept;
+use crate::kept::{Keep, Kept, keep_block};
 use crate::kept_calls::{KeptCall, kept_call};
 use crate::kept_checks::check_shapes;
 use crate::kept_shares::Share;

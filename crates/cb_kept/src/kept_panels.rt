@@ -10,8 +10,7 @@ ghost use Rattle.cb_kept.specs.Kept.{Keeps, semiring_of, matrix_in};
 ghost use Rattle.cb_kept.specs.KeptPanels.{factor_faults, panel_faults, join_faults, IsJoin, IsKeptJoin, IsKeptPanel};
 
 use crate::faults::Fault;
-use crate::keeping::{Keep, keep_block};
-use crate::kept::Kept;
+use crate::kept::{Keep, Kept, keep_block};
 use crate::kept_calls::{KeptCall, kept_call, panels_in};
 use crate::kept_checks::check_shapes;
 use crate::kept_shares::kept_columns;
@@ -170,11 +169,9 @@ fn join_named(
     over_semiring!(semiring, join_over::<_>(alloc, front, back))
 }
 
-/// Joins two panels of a product, also of one under a mask or outside it: appends the entries of a matrix to those of another,
-/// whose columns are all before its own, and leaves the first of these without entries. At a fault both stay as they were.
-/// No entry is copied.
+/// Joins two kept matrices, if they are over one semiring and panels that can be joined.
 #[tactic(auto, unfolding(crate::specs::KeptPanels::join_faults))]
-pub fn kept_join(alloc: Global, front: &mut Kept, back: &mut Kept) -> Result<(), Fault>
+pub(crate) fn join_alone(alloc: Global, front: &mut Kept, back: &mut Kept) -> Result<(), Fault>
     ensures answer { IsAnswer (join_faults front.old back.old) (λ _. IsKeptJoin front.old back.old front.new) result }
     ensures rest { OnOk result (Keeps (semiring_of back.old) (empty_matrix (matrix_in back.old).shape) back.new) }
     ensures front { OnErr result (Keeps (semiring_of front.old) (matrix_in front.old) front.new) }

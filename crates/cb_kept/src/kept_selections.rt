@@ -9,11 +9,10 @@ ghost use Rattle.cb_operations.specs.SelectionAnswers.{answer_of, operand_count_
 ghost use Rattle.cb_selections.specs.Extracted.{AreBelow, AreFew};
 ghost use Rattle.cb_kept.specs.Answers.{IsAnswer, NoFault};
 ghost use Rattle.cb_kept.specs.Kept.{semiring_of, matrix_in};
-ghost use Rattle.cb_kept.specs.KeptSelections.{refusal_faults, selection_faults, HasSelected, HasSelectedColumns, number_faults, IsExtractAnswer, IsExtractOf};
+ghost use Rattle.cb_kept.specs.KeptSelections.{refusal_faults, selection_faults, HasSelected, HasSelectedColumns, number_faults, IsExtractAnswer, IsExtractOf, IsExtractColumnsAnswer, IsExtractColumnsOf};
 
 use crate::faults::Fault;
-use crate::keeping::{Keep, keep_block};
-use crate::kept::{Kept, of_matrix};
+use crate::kept::{Keep, Kept, keep_block, of_matrix};
 use crate::kept_calls::{KeptCall, kept_call};
 use crate::kept_shares::Share;
 use cb_dcsc::Block;
@@ -22,7 +21,7 @@ use cb_matrix::{LIMIT, Shape};
 use cb_operations::Selection;
 use cb_selections::{binary, extract, unary};
 use cb_semirings::Semiring;
-use cb_shares::{selection_columns, total};
+use cb_shares::{extract_columns, selection_columns, total};
 use std::alloc::{AllocError, Global};
 
 /// Refuses matrices from which a selection can't be made.
@@ -214,6 +213,38 @@ pub fn kept_extract(
     ensures { IsExtractAnswer (option_copied rows.entry) (option_copied cols.entry) kept.now result }
 {
     of_matrix!(kept, matrix => extract_kept(alloc, matrix, rows, cols))
+}
+
+/// Some columns of the rows and columns of a matrix by their numbers, kept.
+fn extract_columns_kept<S: Keep>(
+    alloc: Global,
+    matrix: &PanelledMatrix<S>,
+    rows: Option<&[u32]>,
+    cols: Option<&[u32]>,
+    first: u32,
+    end: u32,
+) -> Result<Kept, Fault>
+    ensures { IsExtractColumnsOf S.name S.arithmetic (option_copied rows.entry) (option_copied cols.entry) first end matrix.now result }
+{
+    check_numbers(matrix.shape(), rows, cols)?;
+    let part = extract_columns(alloc, matrix, rows, cols, first, end)?;
+    Ok(keep_block::<S>(alloc, part))
+}
+
+/// Keeps the columns from `first` up to, but not including, `end` of the matrix that [`kept_extract`] keeps, in its shape. The
+/// faults are those of the whole. Costs what [`cb_shares::extract_columns`] costs.
+#[tactic(auto, unfolding(crate::specs::Kept::semiring_of, crate::specs::Kept::matrix_in))]
+pub fn kept_extract_columns(
+    alloc: Global,
+    kept: &Kept,
+    rows: Option<&[u32]>,
+    cols: Option<&[u32]>,
+    first: u32,
+    end: u32,
+) -> Result<Kept, Fault>
+    ensures { IsExtractColumnsAnswer (option_copied rows.entry) (option_copied cols.entry) first end kept.now result }
+{
+    of_matrix!(kept, matrix => extract_columns_kept(alloc, matrix, rows, cols, first, end))
 }
 
 /// Returns the semiring's sum of all values of a kept matrix: its zero if there are no entries.

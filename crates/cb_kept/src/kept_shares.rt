@@ -10,8 +10,7 @@ ghost use Rattle.cb_kept.specs.KeptAnswers.{kept_faults};
 ghost use Rattle.cb_kept.specs.KeptShares.{pair_faults, HasMadeColumns};
 
 use crate::faults::Fault;
-use crate::keeping::{Keep, keep_block};
-use crate::kept::Kept;
+use crate::kept::{Keep, Kept, keep_block};
 use crate::kept_calls::{KeptCall, kept_call};
 use crate::kept_checks::check_shapes;
 use cb_layout::PanelledMatrix;

@@ -8,8 +8,7 @@ ghost use Rattle.cb_kept.specs.KeptAnswers.{IsKeptAnswerOver};
 ghost use Rattle.cb_kept.specs.KeptTexts.{IsKeptText, IsKeptRead};
 
 use crate::faults::Fault;
-use crate::keeping::{Keep, keep_block};
-use crate::kept::{Kept, of_matrix};
+use crate::kept::{Keep, Kept, keep_block, of_matrix};
 use crate::texts::{Text, matrix_text, read_block};
 use cb_semirings::{SemiringName, over_semiring};
 use std::alloc::Global;

@@ -5,8 +5,7 @@ ghost use Rattle.cb_kept.specs.Answers.{IsAnswer};
 ghost use Rattle.cb_kept.specs.KeptTurned.{turned_faults, IsKeptTurned};
 
 use crate::faults::Fault;
-use crate::keeping::{Keep, keep_block};
-use crate::kept::Kept;
+use crate::kept::{Keep, Kept, keep_block};
 use crate::kept_calls::{KeptCall, kept_call};
 use cb_layout::PanelledMatrix;
 use cb_matrix::Shape;

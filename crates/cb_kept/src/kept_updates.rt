@@ -8,8 +8,7 @@ ghost use Rattle.cb_kept.specs.CallsOver.{IsCallOverCommon};
 ghost use Rattle.cb_kept.specs.KeptUpdates.{write_back_of, operands_of, HaveOneShape, one_shape_faults, update_of, IsUpdate, IsUpdateOfColumns};
 
 use crate::faults::Fault;
-use crate::keeping::{Keep, keep_block};
-use crate::kept::Kept;
+use crate::kept::{Keep, Kept, keep_block};
 use crate::kept_calls::{KeptCall, kept_call};
 use crate::kept_shares::Share;
 use cb_dcsc::Block;

@@ -14,17 +14,18 @@
 mod checks;
 mod faults;
 mod incoming;
-mod keeping;
 mod kept;
 mod kept_calls;
 mod kept_checks;
 mod kept_graphs;
 mod kept_lists;
 mod kept_masked_panels;
+mod kept_matrices;
 mod kept_operations;
 mod kept_panels;
 mod kept_selections;
 mod kept_shares;
+mod kept_sums;
 mod kept_texts;
 mod kept_turned;
 mod kept_updates;
@@ -39,10 +40,16 @@ pub use kept::Kept;
 pub use kept_graphs::{KeptAnswer, graph_task_of, kept_graph};
 pub use kept_lists::{keep_lists, lists_of};
 pub use kept_masked_panels::{Allowed, kept_masked_panel, kept_outside};
+pub use kept_matrices::{KeptMatrix, kept_join};
 pub use kept_operations::{operate, prune_of};
-pub use kept_panels::{kept_ends, kept_join, kept_panel};
-pub use kept_selections::{kept_extract, kept_selection, kept_selection_columns, kept_total};
+pub use kept_panels::{kept_ends, kept_panel};
+pub use kept_selections::{
+    kept_extract, kept_extract_columns, kept_selection, kept_selection_columns, kept_total,
+};
 pub use kept_shares::{kept_columns, kept_entry_ends};
+pub use kept_sums::{
+    Sums, kept_add_share, kept_column_of_sums, kept_share_of_sum, kept_total_of_columns,
+};
 pub use kept_texts::{read_kept, text_of};
 pub use kept_turned::kept_turned_product;
 pub use kept_updates::{kept_update, kept_update_columns, write_back_of};

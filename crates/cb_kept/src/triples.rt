@@ -7,8 +7,7 @@ ghost use Rattle.cb_kept.specs.Triples.{entry_of, AreWithin, AreTripleValues, tr
 
 use crate::faults::Fault;
 use crate::incoming::matrix_block;
-use crate::keeping::{Keep, keep_block};
-use crate::kept::Kept;
+use crate::kept::{Keep, Kept, keep_block};
 use cb_dcsc::Block;
 use cb_matrix::{Entry, Matrix, Shape};
 use cb_semirings::{Semiring, SemiringName, over_semiring};

@@ -153,6 +153,22 @@ impl<S: Semiring> RankStore<S> {
         }
     }
 
+    /// A copy of the block in a slot, which has the same lists. If memory is refused, nothing changes.
+    ///
+    /// Takes memory for a few words.
+    pub fn shared_copy(&mut self, alloc: Global, n: u16) -> Result<SharedBlock<S>, AllocError>
+        requires slot { n < SLOTS }
+        requires sheet { IsSome (sheets_in self.old n) }
+        ensures copy { IfOk result (λ block. sheets_in self.old n ≡ Some block) }
+        ensures kept { self.new ≡ self.old }
+    {
+        self.lend(alloc, n)?;
+        match self.slot(n) {
+            Slot::Sheet(block) => block.try_clone(),
+            _ => unreachable!(),
+        }
+    }
+
     /// The block in a slot.
     pub fn sheet(&self, n: u16) -> &Block<S>
         requires slot { n < SLOTS }

@@ -1,5 +1,5 @@
 -- What the plan for writing leaves: the panels of the matrix.
-use Rattle.std.proofs.Common.{◌≡◌, ◌≢◌, ℕ, zero, suc, ◌+◌, ◌-◌, ◌*◌, ◌/◌, ◌%◌, ◌<◌, ◌≤◌, true, false, cond, ◌++◌, map, refl, sym, ap, ◌∙◌, arith}
+use Rattle.std.proofs.Common.{◌≡◌, ◌≢◌, ℕ, zero, suc, ◌+◌, ◌-◌, ◌*◌, ◌/◌, ◌%◌, ◌<◌, ◌≤◌, true, false, cond, [], ◌∷◌, ◌++◌, map, refl, sym, ap, ◌∙◌, arith}
 use Rattle.std.specs.Prelude.{Option, Some, ◌&&◌, nat_le, nat_lt}
 use Rattle.std.specs.List.{range_with_len}
 use Rattle.std.proofs.lemmas.Bool.Decides.{nat_tests}
@@ -13,6 +13,7 @@ use Rattle.cb_grid.specs.Parts.{part, part_start, part_length, part_shape}
 use Rattle.cb_grid.specs.Blocks.{block_of}
 use Rattle.cb_grid.specs.Pieces.{piece, piece_start}
 use Rattle.cb_grid.proofs.Parts.{rank_below}
+use Rattle.cb_plan.specs.declared.acts.Op.TheVariants as op_is
 use Rattle.cb_plan.specs.Meaning.{Algebra, State, meaning, one}
 use Rattle.cb_plan.specs.Algebras.{matrices}
 use Rattle.cb_plan.proofs.Effects.{split, meaning-append}
@@ -24,9 +25,9 @@ use Rattle.cb_plan_parts.proofs.ShutMeaning.{shut_nothing}
 use Rattle.cb_plan_operations.specs.VectorPlans.{each_works}
 use Rattle.cb_plan_operations.proofs.RankPrograms.{after_ops, after_ops-append, each_works_here}
 use Rattle.cb_plan_operations.proofs.VectorSteps.{summed, yes}
-use Rattle.cb_plan_transfers.specs.Rounds.{column_exchanges, sums}
+use Rattle.cb_plan_transfers.specs.Rounds.{column_cuts, column_exchanges, sent_away, sums}
 use Rattle.cb_plan_transfers.specs.Panels.{IsPanelsPlan, panel_of, cuts_at, placed_part, joined_parts, joined_at, panels_acts}
-use Rattle.cb_plan_transfers.proofs.ReceivedBlocks.{op_skips, ops_set, cuts_made, sums_made}
+use Rattle.cb_plan_transfers.proofs.ReceivedBlocks.{op_skips, ops_skip, ops_set, cuts_made, sums_made}
 use Rattle.cb_plan_transfers.proofs.RoundsMeaning.{columns_exchange}
 
 -- ---- the slots after each step, over blocks of any kind
@@ -40,7 +41,10 @@ module _ {M : Type 0} (ops : Algebra M) (q : ℕ) (shape : Extent) (state : Stat
 
   pieces_cut : (i j k : ℕ) → i < q → j < q → k < q → after_cuts (i * q + j) (1 + k) ≡ Some (piece_at i j k)
   pieces_cut i j k l m o =
-      ap (λ slots. slots (1 + k)) (each_works_here ops q (cuts_at q shape) state (i * q + j) (rank_below q i j l m))
+      let slots = state (i * q + j) in
+      let cuts = column_cuts q (part_shape q shape ((i * q + j) / q) ((i * q + j) % q)) in
+      ap (λ sl. sl (1 + k)) (each_works_here ops q (cuts_at q shape) state (i * q + j) (rank_below q i j l m) ∙ after_ops-append ops cuts (op_is.Clear 0 ∷ []) slots)
+      ∙ op_skips ops (op_is.Clear 0) (1 + k) (after_ops ops cuts slots) (let ne : 0 ≢ 1 + k = omega arith in ne)
       ∙ cuts_made ops 0 (λ _. (0, part_length q shape.rows ((i * q + j) / q))) (part q (part_length q shape.cols ((i * q + j) % q))) q (state (i * q + j)) (block i j) k o (λ h _. let ne : 1 + h ≢ 0 = omega arith in ne) (has i j l m)
       ∙ at_place (λ x y. Some (ops.cut (0, part_length q shape.rows x) (part q (part_length q shape.cols y) k) (block i j))) q i j m
 
@@ -66,13 +70,17 @@ module _ {M : Type 0} (ops : Algebra M) (q : ℕ) (shape : Extent) (state : Stat
   abbrev pub placed_at : ℕ → ℕ → ℕ → M
   placed_at j k i = ops.place shape (part_start q shape.rows i, piece_start q shape.cols j k) (piece_at i j k)
 
-  joined_make : (k j : ℕ) → k < q → j < q → after_ops ops (joined_parts q shape (piece_start q shape.cols j k)) (after_exchange (k * q + j)) (1 + q) ≡ Some (summed ops (placed_at j k) (q - 1))
+  joined_make : (k j : ℕ) → k < q → j < q → after_ops ops (sent_away q ++ joined_parts q shape (piece_start q shape.cols j k)) (after_exchange (k * q + j)) (1 + q) ≡ Some (summed ops (placed_at j k) (q - 1))
   joined_make k j l m =
       let left = piece_start q shape.cols j k in
       let puts = map (placed_part q shape left) (range_with_len 0 q) in
-      ap (λ s. s (1 + q)) (after_ops-append ops puts (sums (1 + q) q) (after_exchange (k * q + j)))
-      ∙ sums_made ops (placed_at j k) (1 + q) q (after_ops ops puts (after_exchange (k * q + j))) (omega arith)
-      (λ i o. places_make left (after_exchange (k * q + j)) (λ i. piece_at i j k) (λ i o. pieces_come i j k o m l) i o)
+      let come = after_exchange (k * q + j) in
+      let left_over = after_ops ops (sent_away q) come in
+      let kept : (i : ℕ) → i < q → left_over (1 + q + i) ≡ Some (piece_at i j k) =
+      λ i o. ops_skip ops (λ h. op_is.Clear (1 + h)) (1 + q + i) 0 q come (λ h b. let ne : 1 + h ≢ 1 + q + i = omega arith in ne) ∙ pieces_come i j k o m l in
+      ap (λ s. s (1 + q)) (after_ops-append ops (sent_away q) (puts ++ sums (1 + q) q) come ∙ after_ops-append ops puts (sums (1 + q) q) left_over)
+      ∙ sums_made ops (placed_at j k) (1 + q) q (after_ops ops puts left_over) (omega arith)
+      (λ i o. places_make left left_over (λ i. piece_at i j k) kept i o)
 
   -- after all acts each rank has the sum of what was placed
   pub parts_joined : (k j : ℕ) → k < q → j < q → meaning ops (panels_acts q shape) state (k * q + j) (1 + q) ≡ Some (summed ops (placed_at j k) (q - 1))
@@ -85,7 +93,7 @@ module _ {M : Type 0} (ops : Algebra M) (q : ℕ) (shape : Extent) (state : Stat
       ∙ meaning-append ops cuts (sent ++ joins) state
       ∙ meaning-append ops sent joins after_cuts)
       ∙ ap (λ slots. slots (1 + q)) (each_works_here ops q (joined_at q shape) after_exchange (k * q + j) (rank_below q k j l m))
-      ∙ at_place (λ x y. after_ops ops (joined_parts q shape (piece_start q shape.cols y x)) (after_exchange (k * q + j)) (1 + q)) q k j m
+      ∙ at_place (λ x y. after_ops ops (sent_away q ++ joined_parts q shape (piece_start q shape.cols y x)) (after_exchange (k * q + j)) (1 + q)) q k j m
       ∙ joined_make k j l m
 
 -- ---- over a semiring: the panel of rank (k, j)

@@ -27,8 +27,8 @@ use Rattle.cb_plan_parts.proofs.ShutMeaning.{shut_nothing}
 use Rattle.cb_plan_operations.specs.VectorPlans.{each_works}
 use Rattle.cb_plan_operations.proofs.RankPrograms.{after_ops, after_ops-append, each_works_here}
 use Rattle.cb_plan_operations.proofs.VectorSteps.{summed}
-use Rattle.cb_plan_transfers.specs.Rounds.{column_cuts, row_exchanges, column_exchanges, sums}
-use Rattle.cb_plan_transfers.specs.Pieces.{IsPiecesPlan, IsPiece, sum_of_pieces, piece_cuts, sum_cuts, received_sums, pieces_acts}
+use Rattle.cb_plan_transfers.specs.Rounds.{column_cuts, given_away, row_exchanges, column_exchanges, sums}
+use Rattle.cb_plan_transfers.specs.Pieces.{IsPiecesPlan, IsPiece, sum_of_pieces, sum_cuts, received_sums, pieces_acts}
 use Rattle.cb_plan_transfers.proofs.ReceivedBlocks.{op_skips, cuts_made, sums_made}
 use Rattle.cb_plan_transfers.proofs.RoundsMeaning.{rows_exchange, columns_exchange}
 
@@ -48,7 +48,7 @@ module _ {M : Type 0} (ops : Algebra M) (q : ℕ) (shape : Extent) (pieces : ℕ
 
 module _ {M : Type 0} (ops : Algebra M) (q : ℕ) (shape : Extent) (pieces : ℕ → M) (state : State M) (has : (r : ℕ) → r < q * q → state r 0 ≡ Some (pieces r)) where
   abbrev cuts : State M
-  cuts = meaning ops (each_works q (λ _. piece_cuts q shape)) state
+  cuts = meaning ops (each_works q (λ _. given_away q shape)) state
 
   abbrev rows_exchanged : State M
   rows_exchanged = meaning ops (row_exchanges q (tagged 0)) cuts
@@ -67,7 +67,7 @@ module _ {M : Type 0} (ops : Algebra M) (q : ℕ) (shape : Extent) (pieces : ℕ
   piece_is_cut i j k l m o =
       let slots = state (i * q + j) in
       let below = rank_below q i j l m in
-      ap (λ sl. sl (1 + k)) (each_works_here ops q (λ _. piece_cuts q shape) state (i * q + j) below ∙ after_ops-append ops (column_cuts q shape) (op_is.Clear 0 ∷ []) slots)
+      ap (λ sl. sl (1 + k)) (each_works_here ops q (λ _. given_away q shape) state (i * q + j) below ∙ after_ops-append ops (column_cuts q shape) (op_is.Clear 0 ∷ []) slots)
       ∙ op_skips ops (op_is.Clear 0) (1 + k) (after_ops ops (column_cuts q shape) slots) (let ne : 0 ≢ 1 + k = omega arith in ne)
       ∙ cuts_made ops 0 (λ _. (0, shape.rows)) (part q shape.cols) q slots (pieces (i * q + j)) k o (λ h _. let ne : 1 + h ≢ 0 = omega arith in ne) (has (i * q + j) below)
 
@@ -88,7 +88,7 @@ module _ {M : Type 0} (ops : Algebra M) (q : ℕ) (shape : Extent) (pieces : ℕ
   -- after all acts slot 1 + q of rank (h, k) has the sum of what the ranks of column k had for it
   pub parts_added : (h k : ℕ) → h < q → k < q → meaning ops (pieces_acts q shape) state (h * q + k) (1 + q) ≡ Some (summed ops (rows_at ops q shape pieces h k) (q - 1))
   parts_added h k m o =
-      let first = each_works q (λ _. piece_cuts q shape) in
+      let first = each_works q (λ _. given_away q shape) in
       let rows = row_exchanges q (tagged 0) in
       let adds = received_sums q in
       let second = each_works q (sum_cuts q shape) in

@@ -7,7 +7,7 @@ use Rattle.cb_plan.specs.declared.acts.Op.{Op}
 use Rattle.cb_plan.specs.declared.acts.Op.TheVariants as op_is
 use Rattle.cb_plan.specs.Meaning.{Algebra, target_of, one, two}
 use Rattle.cb_plan.proofs.Effects.{split}
-use Rattle.cb_plan_operations.proofs.RankPrograms.{after_op, after_ops, ops_skip}
+use Rattle.cb_plan_operations.proofs.RankPrograms.{after_op, after_ops, ops_skip as after}
 use Rattle.cb_plan_operations.proofs.VectorSteps.{summed, yes, no}
 use Rattle.cb_plan_transfers.specs.Rounds.{add_to, sums}
 
@@ -15,6 +15,11 @@ module _ {M : Type 0} (ops : Algebra M) where
   -- an operation that sets another slot
   pub op_skips : (op : Op) (x : ℕ) (slots : ℕ → Option M) → target_of op ≢ x → after_op ops op slots x ≡ slots x
   op_skips op x slots ne = let off : (target_of op == x) ≡ false = no (target_of op) x ne in rw off refl
+
+  -- so many operations that set other slots
+  pub ops_skip : (f : ℕ → Op) (x a m : ℕ) (slots : ℕ → Option M) → ((k : ℕ) → k < a + m → target_of (f k) ≢ x) → after_ops ops (map f (range_with_len a m)) slots x ≡ slots x
+  ops_skip f x a zero slots skip = refl
+  ops_skip f x a (suc m) slots skip = ops_skip f x (a + 1) m (after_op ops (f a) slots) (λ k l. skip k (omega arith)) ∙ op_skips (f a) x slots (skip a (omega arith))
 
   -- operation h sets the slot to what v says, and no other one changes it, or what v says
   pub ops_set : (f : ℕ → Op) (x h : ℕ) (v : (ℕ → Option M) → Option M) (a m : ℕ) (slots : ℕ → Option M) → a ≤ h → h < a + m →
@@ -28,7 +33,7 @@ module _ {M : Type 0} (ops : Algebra M) where
       split (a == h)
       (λ t.
       let e : a ≡ h = grind (arith, nat_tests) in
-      ops_skip ops f x (a + 1) n next (λ k b. others k (let ne : k ≢ h = omega arith in ne))
+      after ops f x (a + 1) n next (λ k b. others k (let ne : k ≢ h = omega arith in ne))
       ∙ subst (λ k. after_op ops (f k) slots x ≡ v slots) (sym e) (here slots))
       (λ t.
       let b : a < h = grind (arith, nat_tests) in

@@ -14,7 +14,7 @@ use Rattle.cb_grid.specs.Pieces.{piece, piece_start}
 use Rattle.cb_plan_parts.specs.Collectives.{shut_acts}
 use Rattle.cb_plan_parts.specs.PlanParts.{tagged, HasParts}
 use Rattle.cb_plan_operations.specs.VectorPlans.{each_works}
-use Rattle.cb_plan_transfers.specs.Rounds.{column_cuts, column_exchanges, sums}
+use Rattle.cb_plan_transfers.specs.Rounds.{column_exchanges, given_away, sent_away, sums}
 
 -- ---- what it leaves
 -- the columns of a range, in the matrix's shape, where the other columns have no entries
@@ -39,7 +39,7 @@ IsPanelsPlan acts q shape n =
 -- ---- its acts
 -- rank r cuts its block of a matrix of this shape for the ranks of its column
 abbrev pub cuts_at : ℕ → Extent → ℕ → List Op
-cuts_at q shape r = column_cuts q (part_shape q shape (r / q) (r % q))
+cuts_at q shape r = given_away q (part_shape q shape (r / q) (r % q))
 
 -- what came from row i of the grid, in its place in the whole shape
 abbrev pub placed_part : ℕ → Extent → ℕ → ℕ → Op
@@ -49,9 +49,9 @@ placed_part q shape left i = op_is.Place (1 + q + i) shape (part_start q shape.r
 abbrev pub joined_parts : ℕ → Extent → ℕ → List Op
 joined_parts q shape left = map (placed_part q shape left) (range_with_len 0 q) ++ sums (1 + q) q
 
--- where the panel of rank r begins
+-- rank r does so from where its panel begins, and keeps nothing else
 abbrev pub joined_at : ℕ → Extent → ℕ → List Op
-joined_at q shape r = joined_parts q shape (piece_start q shape.cols (r % q) (r / q))
+joined_at q shape r = sent_away q ++ joined_parts q shape (piece_start q shape.cols (r % q) (r / q))
 
 -- each rank receives its columns of each block of its column of the grid, and puts them together
 abbrev pub panels_acts : ℕ → Extent → List Act

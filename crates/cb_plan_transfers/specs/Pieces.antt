@@ -13,7 +13,7 @@ use Rattle.cb_grid.specs.Parts.{part, part_length}
 use Rattle.cb_plan_parts.specs.Collectives.{shut_acts}
 use Rattle.cb_plan_parts.specs.PlanParts.{tagged, HasParts}
 use Rattle.cb_plan_operations.specs.VectorPlans.{each_works}
-use Rattle.cb_plan_transfers.specs.Rounds.{column_cuts, row_exchanges, column_exchanges, sums}
+use Rattle.cb_plan_transfers.specs.Rounds.{given_away, row_exchanges, column_exchanges, sums}
 
 -- ---- what it leaves
 -- a rank has a piece: a matrix of the whole shape
@@ -38,10 +38,6 @@ IsPiecesPlan acts q shape n =
     → HasParts s q (sum_of_pieces s (q * q) shape pieces) n (meaning (matrices s) acts state)
 
 -- ---- its acts
--- a rank cuts its piece by columns, for the ranks of its row, and doesn't keep it
-abbrev pub piece_cuts : ℕ → Extent → List Op
-piece_cuts q shape = column_cuts q shape ++ op_is.Clear 0 ∷ []
-
 -- each rank adds up what it received
 abbrev pub received_sums : ℕ → List Act
 received_sums q = each_works q (λ _. sums (1 + q) q)
@@ -54,11 +50,11 @@ sum_cut q shape r i = op_is.Cut (1 + q) (part q shape.rows i) (0, part_length q 
 abbrev pub sum_cuts : ℕ → Extent → ℕ → List Op
 sum_cuts q shape r = map (sum_cut q shape r) (range_with_len 0 q)
 
--- Each rank receives its columns of each piece of its row of the grid, and adds them up. Then it receives its rows of each such
+-- Each rank cuts its piece by columns. It receives its columns of each piece of its row of the grid, and adds them up. Then it receives its rows of each such
 -- sum of its column, and adds these up.
 abbrev pub pieces_acts : ℕ → Extent → List Act
 pieces_acts q shape =
-    (each_works q (λ _. piece_cuts q shape)
+    (each_works q (λ _. given_away q shape)
     ++ (row_exchanges q (tagged 0)
     ++ (received_sums q
     ++ (each_works q (sum_cuts q shape)

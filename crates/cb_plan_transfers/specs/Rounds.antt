@@ -1,5 +1,5 @@
 -- What ranks cut, exchange in rounds, and add up.
-use Rattle.std.specs.Prelude.{ℕ, ◌+◌, ◌-◌, ◌%◌, List, length, map, flat_map}
+use Rattle.std.specs.Prelude.{ℕ, ◌+◌, ◌-◌, ◌%◌, List, [], ◌∷◌, ◌++◌, length, map, flat_map}
 use Rattle.std.specs.List.{range_with_len}
 use Rattle.cb_matrix.specs.Sparse.{Extent}
 use Rattle.cb_letters.specs.declared.Tag.{Tag}
@@ -16,6 +16,14 @@ column_cut q block k = op_is.Cut 0 (0, block.rows) (part q block.cols k) (1 + k)
 -- and so each part
 abbrev pub column_cuts : ℕ → Extent → List Op
 column_cuts q block = map (column_cut q block) (range_with_len 0 q)
+
+-- A rank cuts what is in slot 0, a block of this shape, by columns, and doesn't keep it.
+abbrev pub given_away : ℕ → Extent → List Op
+given_away q block = column_cuts q block ++ op_is.Clear 0 ∷ []
+
+-- what a rank has sent, in its slots from 1 on, isn't kept
+abbrev pub sent_away : ℕ → List Op
+sent_away q = map (λ k. op_is.Clear (1 + k)) (range_with_len 0 q)
 
 -- the place that is so far ahead of place s among n, cyclically
 abbrev pub ahead : ℕ → ℕ → ℕ → ℕ

@@ -8,7 +8,7 @@ ghost use Rattle.cb_plan_transfers.specs.Panels.{IsPanelsPlan, cuts_at, joined_p
 
 use crate::rounds::exchange_in_columns;
 use crate::starts::checked;
-use crate::works::{add_up, cut_columns, work};
+use crate::works::{add_up, forget_sent, give_away, work};
 use cb_grid::Grid;
 use cb_letters::Tag;
 use cb_matrix::Shape;
@@ -19,13 +19,14 @@ use std::alloc::Global;
 /// The tag of the parts of blocks.
 const PARTS: Tag = Tag(1);
 
-/// Each rank cuts its block of a matrix of this shape by columns, a part for each rank of its column of the grid.
+/// Each rank cuts its block of a matrix of this shape by columns, a part for each rank of its column of the grid. The block isn't
+/// kept.
 fn cut_blocks(plan: &mut Plan, grid: &Grid, shape: Shape) -> Result<(), PlanFault>
     ensures acts { OnOk result (Grew (each_works grid.now.side (cuts_at grid.now.side shape)) plan.old plan.new) }
 {
     for rank in 0..grid.ranks() {
         let block = grid.block_shape(shape, rank);
-        cut_columns(plan, grid, block, rank)?;
+        give_away(plan, grid, block, rank)?;
     }
     Ok(())
 }
@@ -70,11 +71,12 @@ fn first_column(grid: &Grid, cols: u32, rank: u16) -> u32
     start + within
 }
 
-/// Each rank puts together what it received.
+/// Each rank puts together what it received, and keeps nothing that it sent.
 fn join_all(plan: &mut Plan, grid: &Grid, shape: Shape) -> Result<(), PlanFault>
     ensures acts { OnOk result (Grew (each_works grid.now.side (joined_at grid.now.side shape)) plan.old plan.new) }
 {
     for rank in 0..grid.ranks() {
+        forget_sent(plan, rank, grid.side() as u16)?;
         let left = first_column(grid, shape.cols(), rank);
         join_parts(plan, grid, shape, left, rank)?;
     }
@@ -85,7 +87,7 @@ fn join_all(plan: &mut Plan, grid: &Grid, shape: Shape) -> Result<(), PlanFault>
 /// which the panel is: some whole columns, in the matrix's shape. Rank (i, j) gets part i of the columns of part j, so by column
 /// of the grid, and in it by row, the panels are the matrix from left to right.
 ///
-/// With n ranks on a grid of side q it has some 4 n q acts, of which n (q - 1) are moves, before those that shut the lanes.
+/// With n ranks on a grid of side q it has some 5 n q acts, of which n (q - 1) are moves, before those that shut the lanes.
 pub fn panels_plan(
     alloc: Global,
     grid: &Grid,

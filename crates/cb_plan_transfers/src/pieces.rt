@@ -2,12 +2,13 @@
 ghost use Rattle.std.specs.Prelude.{◌≡◌, ◌<◌, ◌+◌, ◌*◌, IfOk, OnOk};
 ghost use Rattle.cb_plan_parts.specs.Growth.{Grew};
 ghost use Rattle.cb_plan_operations.specs.VectorPlans.{works, each_works};
-ghost use Rattle.cb_plan_transfers.specs.Pieces.{IsPiecesPlan, piece_cuts, pieces_acts, received_sums, sum_cuts};
+ghost use Rattle.cb_plan_transfers.specs.Pieces.{IsPiecesPlan, pieces_acts, received_sums, sum_cuts};
+ghost use Rattle.cb_plan_transfers.specs.Rounds.{given_away};
 ghost use Rattle.cb_plan_transfers.specs.WholeStarts.{all_whole};
 
 use crate::rounds::{exchange_in_columns, exchange_in_rows};
 use crate::starts::{checked, whole_starts};
-use crate::works::{add_up, cut_columns, work};
+use crate::works::{add_up, give_away, work};
 use cb_grid::Grid;
 use cb_letters::Tag;
 use cb_matrix::Shape;
@@ -18,21 +19,12 @@ use std::alloc::Global;
 /// The tag of the parts of pieces.
 const PARTS: Tag = Tag(0);
 
-/// A rank cuts what it read by columns, a part for each rank of its row of the grid. What it read isn't kept.
-fn cut_piece(plan: &mut Plan, grid: &Grid, shape: Shape, rank: u16) -> Result<(), PlanFault>
-    ensures acts { OnOk result (Grew (works rank (piece_cuts grid.now.side shape)) plan.old plan.new) }
-{
-    cut_columns(plan, grid, shape, rank)?;
-    work(plan, rank, Op::Clear { slot: 0 })?;
-    Ok(())
-}
-
-/// Each rank cuts what it read.
+/// Each rank cuts what it read by columns, a part for each rank of its row of the grid. What it read isn't kept.
 fn cut_pieces(plan: &mut Plan, grid: &Grid, shape: Shape) -> Result<(), PlanFault>
-    ensures acts { OnOk result (Grew (each_works grid.now.side (λ _. piece_cuts grid.now.side shape)) plan.old plan.new) }
+    ensures acts { OnOk result (Grew (each_works grid.now.side (λ _. given_away grid.now.side shape)) plan.old plan.new) }
 {
     for rank in 0..grid.ranks() {
-        cut_piece(plan, grid, shape, rank)?;
+        give_away(plan, grid, shape, rank)?;
     }
     Ok(())
 }

@@ -3,9 +3,10 @@ use Rattle.std.proofs.Common.{◌≡◌, ◌≢◌, ℕ, ◌+◌, ◌<◌, true,
 use Rattle.std.specs.Prelude.{All, ◌==◌}
 use Rattle.std.proofs.lemmas.Bool.{cases_eq, eq-eqb, ne_eqb}
 use Rattle.std.proofs.lemmas.List.{length_push}
-use Rattle.std.proofs.lemmas.List.Elements.{All-push, All-weaker}
+use Rattle.std.proofs.lemmas.List.Elements.{All-nil, All-push, All-weaker}
 use Rattle.std.proofs.lemmas.List.Quantifiers.{all_pairs_push}
 use Rattle.cb_semirings.specs.Arithmetic.{Arithmetic, IsValue, IsSemiring}
+use Rattle.cb_matrix.proofs.Pairs.{AllPairs-nil}
 use Rattle.cb_matrix.proofs.Totals.{add_zero}
 use Rattle.cb_dcsc.specs.Columns.{row_value}
 use Rattle.cb_product.specs.SparseColumn.{SparseColumn, IsSparseColumn, value_in, one_value}
@@ -15,6 +16,10 @@ use Rattle.cb_product.proofs.RowValues.{absent_above, row_value-push, row_value-
 pub record IsColumnSoFar (s : Arithmetic) (f : ℕ → ℕ) (c : SparseColumn) (rest : ℕ → ℕ) : Type 0 where
   pub values : (i : ℕ) → IsValue s (value_in s.zero c i)
   pub sums : (i : ℕ) → s.add (value_in s.zero c i) (rest i) ≡ f i
+
+-- the column without entries
+pub empty_column : (s : Arithmetic) → IsSparseColumn s [] []
+empty_column s = record { same_length = refl; ascending = AllPairs-nil (λ i j. i < j); are_values = All-nil (IsValue s); not_zero = All-nil (λ v. v ≢ s.zero) }
 
 module _ (s : Arithmetic) (laws : IsSemiring s) where
   -- a sparse column has a value of the semiring at each row

@@ -41,13 +41,15 @@ pub mod Panels
 pub mod EmptyFactors
 pub mod SeveralProducts
 pub mod Outside
--- For this crate alone, beside the rest of those above. ScaledSum: two columns joined. TermSums: sums of terms. Gathered: terms of entries that
+-- For this crate alone, beside the rest of those above. ScaledSum: two columns joined. TermSums: sums of terms. JoinedTerms: terms
+-- joined one after another. Gathered: terms of entries that
 -- follow one another. HeapStep: a
 -- step of the merge by a heap. MarkBits, WordStep: marks, and the rows of a word of them. Union: two ascending lists
 -- merged. ColumnStarts: where each column starts. Written: a vector that was lent as a slice and written to. ExcludedMarks:
 -- the marks of excluded rows, set and removed.
 pub mod ScaledSum
 pub mod TermSums
+pub mod JoinedTerms
 mod Gathered
 pub mod MarkBits
 pub mod WordStep

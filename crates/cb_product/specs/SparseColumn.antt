@@ -1,5 +1,5 @@
 -- A sparse column: the rows and the values of its entries.
-use Rattle.std.specs.Prelude.{◌≡◌, ◌≢◌, ℕ, ◌<◌, ◌==◌, cond, Option, Some, None, List, length, drop, All, AllPairs}
+use Rattle.std.specs.Prelude.{◌≡◌, ◌≢◌, ℕ, ◌<◌, ◌==◌, cond, Option, Some, None, List, length, take, drop, All, AllPairs}
 use Rattle.cb_semirings.specs.Arithmetic.{Arithmetic, IsValue}
 use Rattle.cb_dcsc.specs.Columns.{row_value}
 
@@ -51,9 +51,17 @@ scaled_rest s rows values scale n i = scaled s (rest_value s.zero rows values n 
 abbrev pub joined_value : Arithmetic → List ℕ → List ℕ → List ℕ → List ℕ → Option ℕ → ℕ → ℕ
 joined_value s own_rows own_values rows values scale i = s.add (row_value s.zero own_rows own_values i) (scaled_at s rows values scale i)
 
+-- the value at row i of the sum of two columns, each times a factor if there is one
+abbrev pub both_value : Arithmetic → List ℕ → List ℕ → Option ℕ → List ℕ → List ℕ → Option ℕ → ℕ → ℕ
+both_value s own_rows own_values own_scale rows values scale i = s.add (scaled_at s own_rows own_values own_scale i) (scaled_at s rows values scale i)
+
 -- the rows and values of a column whose rows are below a bound; a value may be zero
 pub record AreEntries (s : Arithmetic) (bound : ℕ) (rows values : List ℕ) : Type 0 where
   pub same_length : length values ≡ length rows
   pub ascending : AllPairs (λ i j. i < j) rows
   pub inside : All (λ i. i < bound) rows
   pub are_values : All (IsValue s) values
+
+-- the column of the first n of these entries
+abbrev pub first_entries : ℕ → List ℕ → List ℕ → SparseColumn
+first_entries n rows values = record { rows = take n rows; values = take n values }

@@ -1,5 +1,5 @@
 -- A column of a product as a sum of terms: columns of the left block, each scaled by an entry of the right.
-use Rattle.std.specs.Prelude.{◌≡◌, ℕ, ◌<◌, ◌≤◌, List, [], ◌∷◌, length, map, AllPairs, slice_range, slice_index}
+use Rattle.std.specs.Prelude.{◌≡◌, ℕ, ◌<◌, ◌≤◌, ◌+◌, ◌-◌, List, [], ◌∷◌, length, map, AllPairs, slice_range, slice_index}
 use Rattle.cb_semirings.specs.Arithmetic.{Arithmetic, IsValue}
 use Rattle.cb_matrix.specs.Sparse.{Sparse, at}
 use Rattle.cb_matrix.specs.Values.{total}
@@ -27,6 +27,11 @@ pub record IsTerm (s : Arithmetic) (rows : List ℕ) (t : Term) : Type 0 where
   pub row : t.row ≡ slice_index rows t.at
   pub ascending : AllPairs (λ i j. i < j) (slice_range rows t.at t.end)
   pub scale : IsValue s t.scale
+
+-- how many products terms have
+unfoldable pub terms_length : List Term → ℕ
+terms_length [] = 0
+terms_length (t ∷ ts) = (t.end - t.at) + terms_length ts
 
 -- the sum at row i of terms of a matrix
 abbrev pub terms_at : Arithmetic → Sparse → ℕ → List Term → ℕ

@@ -1,32 +1,39 @@
 //! A column of a product while it is built, and the sum of two columns.
-ghost use Rattle.std.specs.Prelude.{◌≡◌, ◌≢◌, ◌↔◌, IsTrue, ℕ, ◌<◌, ◌≤◌, List, [], length, drop, All, AllPairs, Contains, IfOk, IfNone, IfSome, OnOk, slice_index, slice_range};
+ghost use Rattle.std.specs.Prelude.{◌≡◌, ◌≢◌, ◌↔◌, IsTrue, ℕ, ◌<◌, ◌≤◌, List, [], length, drop, All, AllPairs, Contains, IfOk, IfNone, IfSome, OnOk, slice_index, slice_range, take};
 ghost use Rattle.cb_semirings.specs.Arithmetic.{IsValue};
-ghost use Rattle.cb_dcsc.specs.Columns.{in_column, rows_of, values_of};
+ghost use Rattle.cb_dcsc.specs.Columns.{in_column, row_value, rows_of, values_of};
 ghost use Rattle.cb_product.specs.SparseColumn.{IsSparseColumn, IsColumnOf, AddsToColumn, one_value, scaled, scaled_at, scaled_rest, joined_value};
+ghost use Rattle.cb_product.specs.Terms.{IsTerm, terms_value};
 ghost use Rattle.cb_product.specs.InColumns.{is_among};
 ghost use Rattle.cb_product.specs.Outside.{outside, ArePassed};
 
+use crate::joins::{products_in, put, put_joined, put_rest, put_terms};
+use crate::terms::Term;
 use cb_dcsc::Block;
 use cb_semirings::Semiring;
 use std::alloc::{AllocError, Global};
 use std::marker::{Model, PhantomData};
 
-/// A sparse column: the rows of its entries, ascending, and their values, none of which is zero.
+/// A sparse column: the rows of its entries, ascending, and their values, none of which is zero. Its lists have room for
+/// more entries, so that an entry is stored without asking for memory.
 #[derive(Drop)]
 pub(crate) struct Column<S: Semiring> {
+    /// How many entries there are. What the lists have behind them doesn't count.
+    len: usize,
     rows: Vec<u32>,
     values: Vec<u64>,
     semiring: PhantomData<S>,
 }
 
 impl<S: Semiring> Model for Column<S> {
-    ghost use Rattle.cb_product.specs.SparseColumn.{SparseColumn, IsSparseColumn};
+    ghost use Rattle.std.specs.Prelude.{◌≤◌, take, length};
+    ghost use Rattle.cb_product.specs.SparseColumn.{SparseColumn, IsSparseColumn, first_entries};
 
     ghost Value = { SparseColumn };
 
-    ghost view = { λ a. record { rows = a.rows.items; values = a.values.items } };
+    ghost view = { λ a. first_entries a.len a.rows.items a.values.items };
 
-    ghost invariant = { λ a. IsSparseColumn S.arithmetic a.rows.items a.values.items };
+    ghost invariant = { λ a. IsSparseColumn S.arithmetic (take a.len a.rows.items) (take a.len a.values.items) × (a.len ≤ length a.rows.items) × (length a.rows.items ≤ length a.values.items) };
 }
 
 impl<S: Semiring> Column<S> {
@@ -35,6 +42,7 @@ impl<S: Semiring> Column<S> {
         ensures { result.rows ≡ [] }
     {
         Column {
+            len: 0,
             rows: Vec::new(alloc),
             values: Vec::new(alloc),
             semiring: PhantomData,
@@ -45,8 +53,7 @@ impl<S: Semiring> Column<S> {
     pub fn clear(&mut self)
         ensures { self.new.rows ≡ [] }
     {
-        self.rows.clear();
-        self.values.clear();
+        self.len = 0;
     }
 
     /// Returns the rows and the values of the entries.
@@ -55,7 +62,7 @@ impl<S: Semiring> Column<S> {
         ensures values { result.1.now ≡ self.now.values }
         ensures column { IsSparseColumn S.arithmetic self.now.rows self.now.values }
     {
-        (&self.rows, &self.values)
+        (&self.rows[..self.len], &self.values[..self.len])
     }
 
     /// Appends an entry, unless its value is zero. Its row comes after all others.
@@ -66,20 +73,16 @@ impl<S: Semiring> Column<S> {
         ensures sum { OnOk result (AddsToColumn S.arithmetic (one_value S.arithmetic.zero (row, value)) self.old self.new) }
         ensures rows { OnOk result ((bound : ℕ) → row < bound → All (λ i. i < bound) self.new.rows) }
     {
-        prove_eq!(self.entries().0.len(), self.entries().1.len());
-        if is_zero::<S>(value) {
-            return Ok(());
+        if self.len == self.rows.len() {
+            let room = self.len.saturating_mul(2).saturating_add(16);
+            lengthen(&mut self.rows, &mut self.values, room)?;
         }
-        self.rows.reserve(1)?;
-        self.values.reserve(1)?;
-        self.rows.push_reserved(row);
-        self.values.push_reserved(value);
+        self.len = put::<S>(&mut self.rows, &mut self.values, self.len, row, value);
         Ok(())
     }
 
     /// Appends the entries of another column from the nth on, times a factor if there is one. Their rows come after all
     /// others.
-    #[inline(always)]
     pub fn append(
         &mut self,
         rows: &[u32],
@@ -92,18 +95,23 @@ impl<S: Semiring> Column<S> {
         requires order { AllPairs (λ i j. i < j) rows.now }
         requires scale { IfSome scale (IsValue S.arithmetic) }
         requires after { from < length rows.now → All (λ i. i < slice_index rows.now from) self.old.rows }
-        ensures sum { OnOk result (AddsToColumn S.arithmetic (scaled_rest S.arithmetic rows.now values.now scale from) self.old self.new) }
-        ensures none { OnOk result (length rows.now ≤ from → self.new ≡ self.old) }
+        ensures { OnOk result (AddsToColumn S.arithmetic (scaled_rest S.arithmetic rows.now values.now scale from) self.old self.new) }
     {
-        prove_eq!(self.entries().0.len(), self.entries().1.len());
-        for n in from..rows.len() {
-            self.keep(rows[n], scaled::<S>(values[n], scale))?;
-        }
+        let room = self.len + rows.len();
+        lengthen(&mut self.rows, &mut self.values, room)?;
+        self.len = put_rest::<S>(
+            &mut self.rows,
+            &mut self.values,
+            self.len,
+            rows,
+            values,
+            scale,
+            from,
+        );
         Ok(())
     }
 
     /// Replaces this column by the sum of two others, the second times a factor if there is one. Costs O(entries of both).
-    #[inline(always)]
     pub fn join(
         &mut self,
         own_rows: &[u32],
@@ -121,26 +129,56 @@ impl<S: Semiring> Column<S> {
         requires scale { IfSome scale (IsValue S.arithmetic) }
         ensures { OnOk result (IsColumnOf S.arithmetic (joined_value S.arithmetic own_rows.now own_values.now rows.now values.now scale) self.new) }
     {
-        self.clear();
-        let mut x = 0;
-        let mut y = 0;
-        while x < own_rows.len() && y < rows.len() {
-            let own_row = own_rows[x];
-            let row = rows[y];
-            if own_row < row {
-                self.keep(own_row, own_values[x])?;
-                x += 1;
-            } else if row < own_row {
-                self.keep(row, scaled::<S>(values[y], scale))?;
-                y += 1;
-            } else {
-                self.keep(row, S::add(own_values[x], scaled::<S>(values[y], scale)))?;
-                x += 1;
-                y += 1;
-            }
-        }
-        self.append(own_rows, own_values, None, x)?;
-        self.append(rows, values, scale, y)
+        let room = own_rows.len() + rows.len();
+        lengthen(&mut self.rows, &mut self.values, room)?;
+        self.len = put_joined::<S>(
+            &mut self.rows,
+            &mut self.values,
+            own_rows,
+            own_values,
+            None,
+            rows,
+            values,
+            scale,
+        );
+        Ok(())
+    }
+
+    /// Replaces this column by the sum of another and of terms, which are joined to it one after another. The entries of
+    /// `spare` are lost. Costs O(entries and products * terms).
+    pub fn join_terms(
+        &mut self,
+        spare: &mut Column<S>,
+        own_rows: &[u32],
+        own_values: &[u64],
+        rows: &[u32],
+        values: &[u64],
+        terms: &[Term],
+    ) -> Result<(), AllocError>
+        requires own_lengths { length own_values.now ≡ length own_rows.now }
+        requires own_values { All (IsValue S.arithmetic) own_values.now }
+        requires own_order { AllPairs (λ i j. i < j) own_rows.now }
+        requires lengths { length values.now ≡ length rows.now }
+        requires values { All (IsValue S.arithmetic) values.now }
+        requires terms { All (IsTerm S.arithmetic rows.now) terms.now }
+        ensures { OnOk result (IsColumnOf S.arithmetic (λ i. S.arithmetic.add (row_value S.arithmetic.zero own_rows.now own_values.now i) (terms_value S.arithmetic rows.now values.now i terms.now)) self.new) }
+    {
+        let room = own_rows.len().saturating_add(products_in(terms));
+        lengthen(&mut self.rows, &mut self.values, room)?;
+        lengthen(&mut spare.rows, &mut spare.values, room)?;
+        spare.len = 0;
+        self.len = put_terms::<S>(
+            &mut self.rows,
+            &mut self.values,
+            &mut spare.rows,
+            &mut spare.values,
+            own_rows,
+            own_values,
+            rows,
+            values,
+            terms,
+        );
+        Ok(())
     }
 
     /// Replaces this column by another, times a factor if there is one, without its entries in the excluded rows. Costs
@@ -168,6 +206,37 @@ impl<S: Semiring> Column<S> {
         }
         Ok(())
     }
+}
+
+/// Makes the lists of a column as long as `room`, unless they are longer.
+#[inline(always)]
+fn lengthen(rows: &mut Vec<u32>, values: &mut Vec<u64>, room: usize) -> Result<(), AllocError>
+    requires { length rows.old.items ≤ length values.old.items }
+    ensures room { OnOk result (room ≤ length rows.new.items) }
+    ensures lengths { length rows.new.items ≤ length values.new.items }
+    ensures rows { take (length rows.old.items) rows.new.items ≡ rows.old.items }
+    ensures values { take (length values.old.items) values.new.items ≡ values.old.items }
+{
+    if room <= rows.len() {
+        return Ok(());
+    }
+    grow(rows, values, room)
+}
+
+/// Does so where the first list is shorter than `room`.
+#[inline(never)]
+fn grow(rows: &mut Vec<u32>, values: &mut Vec<u64>, room: usize) -> Result<(), AllocError>
+    requires lengths { length rows.old.items ≤ length values.old.items }
+    requires shorter { length rows.old.items ≤ room }
+    ensures room { OnOk result (room ≤ length rows.new.items) }
+    ensures lengths { length rows.new.items ≤ length values.new.items }
+    ensures rows { take (length rows.old.items) rows.new.items ≡ rows.old.items }
+    ensures values { take (length values.old.items) values.new.items ≡ values.old.items }
+{
+    if room > values.len() {
+        values.resize(room, 0)?;
+    }
+    rows.resize(room, 0)
 }
 
 /// Whether a row is one of these rows, which ascend. A caller that asks for rows in ascending order, and keeps `next` from
@@ -200,7 +269,7 @@ pub(crate) fn scaled<S: Semiring>(value: u64, scale: Option<u64>) -> u64
 
 /// Whether a value is the semiring's zero, which isn't stored.
 #[inline(always)]
-fn is_zero<S: Semiring>(value: u64) -> bool
+pub(crate) fn is_zero<S: Semiring>(value: u64) -> bool
     ensures { IsTrue result ↔ (value ≡ S.arithmetic.zero) }
 {
     value == S::zero()

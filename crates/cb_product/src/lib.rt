@@ -5,8 +5,9 @@
 //! Otherwise the sum is computed in one of four ways, all with the same contract:
 //!
 //! - a single term is joined with the accumulator's column: O(entries of both);
-//! - if the column has many entries for the number of rows, terms are added up in a sparse accumulator, an array with a
-//!   place for each row: O(products), plus a scan of the words that mark rows between its first and its last;
+//! - if the column has many entries for the number of rows, and more than a few products, terms are added up in a sparse
+//!   accumulator, an array with a place for each row: O(products), plus a scan of the words that mark rows between its first
+//!   and its last;
 //! - a few terms are joined one after another: O(products * terms);
 //! - many terms are merged by a heap: O(products * log terms).
 //!
@@ -49,6 +50,7 @@ mod column_index;
 mod columns;
 mod counts;
 mod heads;
+mod joins;
 mod marks;
 mod panel;
 mod product_column;

@@ -133,16 +133,18 @@ impl Panel {
         self.first = from;
         self.terms.clear();
         self.places.clear();
-        self.places.push(0)?;
+        self.terms.reserve(last - from)?;
+        self.places.reserve(last - from + 1)?;
+        self.places.push_reserved(0);
         let mut products = 0usize;
         for n in from..last {
             let (at, end) = index.range(left, rows[n]);
             if at < end {
                 let term = term_of(left_rows, left_values, at, end, values[n], products);
-                self.terms.push(term)?;
+                self.terms.push_reserved(term);
                 products = products.saturating_add(end - at);
             }
-            self.places.push(self.terms.len())?;
+            self.places.push_reserved(self.terms.len());
         }
         Ok(())
     }

@@ -107,6 +107,7 @@ impl<S: Semiring> SparseAccumulator<S> {
     }
 
     /// Adds terms to the sums of their rows.
+    #[inline(never)]
     pub fn add_terms(&mut self, rows: &[u32], values: &[u64], terms: &[Term])
         requires lengths { length values.now ≡ length rows.now }
         requires values { All (IsValue S.arithmetic) values.now }

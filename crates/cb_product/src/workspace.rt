@@ -11,7 +11,7 @@ use crate::columns::Column;
 use crate::heads::merge;
 use crate::sources::Source;
 use crate::sparse_accumulator::SparseAccumulator;
-use crate::terms::Term;
+use crate::terms::{Term, products_of};
 use cb_dcsc::Block;
 use cb_semirings::Semiring;
 use std::alloc::{AllocError, Global};
@@ -19,6 +19,12 @@ use std::mem::swap;
 
 /// Up to this many terms are joined one after another; more are merged by a heap.
 const FEW: usize = 24;
+
+/// Up to this many terms are joined also if the column is dense, unless it has more than [`SHORT`] products.
+const FEW_SHORT: usize = 5;
+
+/// The most products, with the entries of the accumulator's column, of a dense column whose terms are joined.
+const SHORT: usize = 96;
 
 /// The memory in which columns are computed, one after another: the result, a spare column and the sparse accumulator.
 #[derive(Drop)]
@@ -43,8 +49,8 @@ impl<S: Semiring> Workspace<S> {
     }
 
     /// Computes the sum of terms and a column of the accumulator. A single term is joined with that column. Several terms
-    /// are added up in the sparse accumulator if `dense`; otherwise a few are joined one after another, and many are merged
-    /// by a heap.
+    /// are added up in the sparse accumulator if `dense`, unless they are short; otherwise a few are joined one after
+    /// another, and many are merged by a heap.
     pub fn make(
         &mut self,
         left: &Block<S>,
@@ -63,7 +69,7 @@ impl<S: Semiring> Workspace<S> {
         if terms.len() == 1 {
             return self.make_of_one(left, terms, own_rows, own_values);
         }
-        if dense {
+        if dense && !is_short(terms, own_rows.len()) {
             return self.make_dense(left, terms, own_rows, own_values);
         }
         if terms.len() <= FEW {
@@ -212,19 +218,13 @@ impl<S: Semiring> Workspace<S> {
         ensures column { OnOk result (IsColumnOf S.arithmetic (sum_with S.arithmetic left.now own_rows.now own_values.now terms.now) self.new.made) }
     {
         let (rows, values) = (left.row_numbers(), left.values());
-        self.made.clear();
-        self.made.append(own_rows, own_values, None, 0)?;
-        for term in terms {
-            swap(&mut self.made, &mut self.spare);
-            let (sum_rows, sum_values) = self.spare.entries();
-            self.made.join(
-                sum_rows,
-                sum_values,
-                &rows[term.at..term.end],
-                &values[term.at..term.end],
-                Some(term.scale),
-            )?;
-        }
-        Ok(())
+        self.made
+            .join_terms(&mut self.spare, own_rows, own_values, rows, values, terms)
     }
+}
+
+/// Whether terms are so few, and have so few products, that to join them one after another costs less than to add them up
+/// in the sparse accumulator. The accumulator's column has `own` entries, which count as products.
+fn is_short(terms: &[Term], own: usize) -> bool {
+    terms.len() <= FEW_SHORT && own.saturating_add(products_of(terms)) <= SHORT
 }

@@ -135,7 +135,7 @@ impl<S: Semiring> Rank<S> {
         let Some(Half::Post { tag, slot, .. }) = self.next() else {
             unreachable!()
         };
-        let (body, refused) = copy_of(&self.store, self.me, slot, supply);
+        let (body, refused) = copy_of(self.alloc, &mut self.store, self.me, slot, supply);
         self.refusals += u64::from(refused);
         self.done += 1;
         (tag, body)
@@ -257,19 +257,21 @@ fn fill<S: Semiring>(store: &mut RankStore<S>, half: &Half, arrival: Arrival<Sha
 
 /// What rank `me` posts for a filled slot, and whether memory for a copy was refused.
 fn copy_of<S: Semiring>(
-    store: &RankStore<S>,
+    alloc: Global,
+    store: &mut RankStore<S>,
     me: u16,
     slot: u16,
     supply: Supply,
 ) -> (Body<SharedBlock<S>>, bool)
     requires inside { slot < SLOTS }
-    requires filled { is_filled (slot_at store.now slot) ≡ true }
-    ensures copy { IsCopy me (slot_at store.now slot) result.0 0 (from_bool result.1) }
-    ensures starved { supply ≡ Supply.Refused → is_sheet (slot_at store.now slot) ≡ true → result.1 ≡ true }
+    requires filled { is_filled (slot_at store.old slot) ≡ true }
+    ensures copy { IsCopy me (slot_at store.old slot) result.0 0 (from_bool result.1) }
+    ensures starved { supply ≡ Supply.Refused → is_sheet (slot_at store.old slot) ≡ true → result.1 ≡ true }
+    ensures kept { store.new ≡ store.old }
 {
     match store.slot(slot) {
-        Slot::Sheet(block) => match supply {
-            Supply::Granted => match block.try_clone() {
+        Slot::Sheet(_block) => match supply {
+            Supply::Granted => match store.shared_copy(alloc, slot) {
                 Ok(copy) => (Body::Sheet(copy), false),
                 Err(_) => (Body::Lost(me), true),
             },

@@ -1,7 +1,7 @@
 //! Ranks that run apart: each does its own program over its desk, and together they leave what the plan means.
 //!
 //! A rank is run on a thread that owns it, with its slots, and its desk, with its ends of the lanes. What goes from one
-//! rank to another goes in a letter: a copy of a block, or a block that is lent, which nobody changes as long as it is.
+//! rank to another goes in a letter: a block that is lent, which nobody changes as long as it is.
 //!
 //! - [`assemble`] makes the ranks of a plan, each with its desk.
 //! - [`run_rank`] does one rank's halves in order on its caller's thread. Before each half it calls the [`Observer`]. A half

@@ -45,8 +45,8 @@ pub fn work<S: Semiring>(alloc: Global, store: &mut RankStore<S>, op: &Op) -> Re
         return Ok(());
     }
     if let Op::Copy { a, into } = op {
-        let copy = store.try_copy(*a)?;
-        store.set(*into, copy);
+        let copy = store.shared_copy(alloc, *a)?;
+        store.put_shared(*into, copy);
         return Ok(());
     }
     let made = made_by(alloc, store, *op)?;

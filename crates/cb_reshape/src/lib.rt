@@ -186,8 +186,8 @@ pub fn column_of_list<S: Semiring>(
     for row in 0..shape.rows() {
         let value = values[row as usize];
         if value != S::zero() {
-            rows.push(row)?;
-            stored.push(value)?;
+            rows.push_reserved(row);
+            stored.push_reserved(value);
         }
     }
     Block::from_csc(alloc, shape, &[0, rows.len()], rows, stored)

@@ -5,7 +5,7 @@ use Rattle.cb_matrix.specs.Sparse.{Sparse, IsMatrix, at}
 use Rattle.cb_matrix.specs.Operations.{transposed}
 use Rattle.cb_searches.specs.declared.numbers.Numbers.{Numbers}
 use Rattle.cb_searches.specs.Walks.{IsWalk, IsLeast, steps, infinite}
-use Rattle.cb_searches.specs.Numbers.{number_at, AreNumbers}
+use Rattle.cb_searches.specs.Numbers.{listed_at, number_at, AreNumbers}
 
 -- The levels up to k: each number is the least length of a walk from the source and at most k, and each vertex to which a
 -- walk of at most k steps leads has a number.
@@ -13,6 +13,10 @@ pub record AreLevelsWithin (a : Sparse) (source k : ℕ) (d : ℕ → ℕ) : Typ
   pub fits : (v : ℕ) → d v ≤ infinite
   pub levels : (v : ℕ) → d v ≢ infinite → (d v ≤ k) × IsLeast or_and a source v steps (d v)
   pub within : (v : ℕ) (walk : List ℕ) → IsWalk or_and a source v walk → steps walk ≤ k → d v ≢ infinite
+
+-- Rounds from the kth to the mth: whichever source it is from, a list of the levels up to k becomes one of those up to m.
+abbrev pub AreRounds : Sparse → ℕ → ℕ → List ℕ → List ℕ → Type 0
+AreRounds a k m old new = (source : ℕ) → AreLevelsWithin a source k (listed_at old) → AreLevelsWithin a source m (listed_at new)
 
 -- Each number is the level of its vertex, the least length of a walk from the source, and a vertex without a number has
 -- no walk.

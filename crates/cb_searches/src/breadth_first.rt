@@ -16,7 +16,7 @@ ghost use Rattle.cb_matrix.specs.Sparse.{Sparse};
 ghost use Rattle.cb_matrix.specs.Operations.{transposed};
 ghost use Rattle.cb_searches.specs.Walks.{infinite};
 ghost use Rattle.cb_searches.specs.Numbers.{listed_at, number_at, AreNumbers};
-ghost use Rattle.cb_searches.specs.BreadthFirst.{AreLevelNumbers, AreLevelsWithin, HasTurned, HaveClaimed, IsReaching};
+ghost use Rattle.cb_searches.specs.BreadthFirst.{AreLevelNumbers, AreLevelsWithin, AreRounds, HasTurned, HaveClaimed, IsReaching};
 
 use crate::dijkstra::edges_of;
 use crate::numbers::Numbers;
@@ -37,12 +37,31 @@ const LOOKS_PER_ENTRY: usize = 5;
 /// How often each look of a slow round counts: one by entries that reaches at most twice as many vertices as the one before.
 const SLOW_ROUND: usize = 4;
 
-/// The levels of the vertices from a source, in the graph of a square block.
+/// The levels of the vertices from a source, in the graph of a square block, given its transpose if the caller has it.
 ///
-/// Rounds go up at first, as the block is. After five looks for each entry in rounds that don't grow fast enough to reach all
-/// vertices in two more, sooner if they grow slowly, or at once if the numbers aren't in a list, the block is transposed, and
-/// the other rounds are made as [`breadth_first`] does.
+/// Otherwise rounds go up at first, as the block is. After five looks for each entry in rounds that don't grow fast enough to
+/// reach all vertices in two more, sooner if they grow slowly, or at once if the numbers aren't in a list, the block is
+/// transposed, and the other rounds are made as [`breadth_first`] does.
 pub(crate) fn level_numbers(
+    alloc: Global,
+    graph: &Block<OrAnd>,
+    turned: Option<&Block<OrAnd>>,
+    source: u32,
+) -> Result<Numbers, AllocError>
+    requires square { graph.now.shape.rows ≡ graph.now.shape.cols }
+    requires source { source < graph.now.shape.rows }
+    requires turned { IfSome turned (λ t. t.now ≡ transposed or_and graph.now) }
+    ensures numbers { IfOk result (AreNumbers graph.now.shape.rows) }
+    ensures levels { IfOk result (λ known. AreLevelNumbers graph.now source (number_at known)) }
+{
+    match turned {
+        Some(turned) => breadth_first(alloc, graph, turned, source),
+        None => turn_when_it_pays(alloc, graph, source),
+    }
+}
+
+/// The same without the transpose, which is made when that pays.
+fn turn_when_it_pays(
     alloc: Global,
     graph: &Block<OrAnd>,
     source: u32,
@@ -77,7 +96,7 @@ fn rounds_up(list: &mut [u64], graph: &Block<OrAnd>) -> Option<u32>
     requires length { length list.old ≡ graph.now.shape.rows }
     ensures length { length list.new ≡ length list.old }
     ensures ended { IfNone result ((source : ℕ) → AreLevelsWithin graph.now source 0 (listed_at list.old) → AreLevelNumbers graph.now source (listed_at list.new)) }
-    ensures left { IfSome result (λ k. (source : ℕ) → AreLevelsWithin graph.now source 0 (listed_at list.old) → AreLevelsWithin graph.now source k (listed_at list.new)) }
+    ensures left { IfSome result (λ k. AreRounds graph.now 0 k list.old list.new) }
 {
     let shape = graph.shape();
     let mut looks_left = graph.len().saturating_mul(LOOKS_PER_ENTRY);
@@ -123,7 +142,7 @@ fn grows_fast(before: usize, reached: usize, all: usize) -> bool {
 ///
 /// A round down costs the edges from the vertices that were just reached, and up a look at each column that has entries,
 /// and at the rows of each column without a level, up to the first that a round before reached.
-pub(crate) fn breadth_first(
+fn breadth_first(
     alloc: Global,
     graph: &Block<OrAnd>,
     turned: &Block<OrAnd>,
@@ -209,7 +228,7 @@ fn up_while_many(
     requires rounds { rounds < graph.now.shape.rows }
     ensures length { length list.new ≡ length list.old }
     ensures later { IfOk result (λ made. rounds < made) }
-    ensures rounds { IfOk result (λ made. (source : ℕ) → AreLevelsWithin graph.now source rounds (listed_at list.old) → AreLevelsWithin graph.now source made (listed_at list.new)) }
+    ensures rounds { IfOk result (λ made. AreRounds graph.now rounds made list.old list.new) }
     ensures near { IfOk result (λ made. All (λ v. listed_at list.new v ≡ made) queue.new.items) }
     ensures all { IfOk result (λ made. (v : ℕ) → listed_at list.new v ≡ made → Contains queue.new.items v) }
 {
@@ -225,7 +244,7 @@ fn rounds_while_many(list: &mut [u64], graph: &Block<OrAnd>, rounds: u32) -> u32
     requires rounds { rounds < graph.now.shape.rows }
     ensures length { length list.new ≡ length list.old }
     ensures later { rounds < result }
-    ensures rounds { (source : ℕ) → AreLevelsWithin graph.now source rounds (listed_at list.old) → AreLevelsWithin graph.now source result (listed_at list.new) }
+    ensures rounds { AreRounds graph.now rounds result list.old list.new }
 {
     let shape = graph.shape();
     let few = graph.columns() / COLUMNS_PER_REACHED;
@@ -338,7 +357,7 @@ fn round_up(list: &mut [u64], graph: &Block<OrAnd>, rounds: u32, by_entries: boo
     requires length { length list.old ≡ graph.now.shape.rows }
     ensures length { length list.new ≡ length list.old }
     ensures none { result.0 ≡ 0 → list.new ≡ list.old }
-    ensures round { (source : ℕ) → AreLevelsWithin graph.now source rounds (listed_at list.old) → AreLevelsWithin graph.now source (rounds + 1) (listed_at list.new) }
+    ensures round { AreRounds graph.now rounds (rounds + 1) list.old list.new }
 {
     if by_entries {
         up_by_entries(list, graph, rounds)
@@ -354,7 +373,7 @@ fn up_by_entries(list: &mut [u64], graph: &Block<OrAnd>, rounds: u32) -> (usize,
     requires length { length list.old ≡ graph.now.shape.rows }
     ensures length { length list.new ≡ length list.old }
     ensures none { result.0 ≡ 0 → list.new ≡ list.old }
-    ensures round { (source : ℕ) → AreLevelsWithin graph.now source rounds (listed_at list.old) → AreLevelsWithin graph.now source (rounds + 1) (listed_at list.new) }
+    ensures round { AreRounds graph.now rounds (rounds + 1) list.old list.new }
 {
     let shape = graph.shape();
     prove_eq!(shape.rows(), shape.cols());
@@ -379,7 +398,7 @@ fn up(list: &mut [u64], graph: &Block<OrAnd>, rounds: u32) -> (usize, usize)
     requires length { length list.old ≡ graph.now.shape.rows }
     ensures length { length list.new ≡ length list.old }
     ensures none { result.0 ≡ 0 → list.new ≡ list.old }
-    ensures round { (source : ℕ) → AreLevelsWithin graph.now source rounds (listed_at list.old) → AreLevelsWithin graph.now source (rounds + 1) (listed_at list.new) }
+    ensures round { AreRounds graph.now rounds (rounds + 1) list.old list.new }
 {
     let shape = graph.shape();
     prove_eq!(shape.rows(), shape.cols());

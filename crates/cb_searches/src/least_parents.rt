@@ -3,9 +3,10 @@
 //! A parent of a vertex is one level nearer to the source and has an edge to it. An edge leads at most one level
 //! farther, so once the levels are known, every nearer vertex with an edge to a vertex is a parent. Each column of the
 //! block lists the sources of the edges to its vertex, ascending: the first one that is nearer is the least parent.
-ghost use Rattle.std.specs.Prelude.{◌≡◌, ℕ, ◌<◌, IfOk};
-ghost use Rattle.cb_semirings.specs.Tables.{min_plus};
+ghost use Rattle.std.specs.Prelude.{◌≡◌, ℕ, ◌<◌, IfOk, IfSome};
+ghost use Rattle.cb_semirings.specs.Tables.{min_plus, or_and};
 ghost use Rattle.cb_matrix.specs.Sparse.{IsMatrix, at};
+ghost use Rattle.cb_matrix.specs.Operations.{transposed};
 ghost use Rattle.cb_searches.specs.Walks.{column_shape};
 ghost use Rattle.cb_searches.specs.Numbers.{number_at};
 ghost use Rattle.cb_searches.specs.Parents.{AreParents, first_below, first_nearer};
@@ -22,21 +23,23 @@ use std::alloc::{AllocError, Global};
 /// vertex that is one level nearer and has an edge to it. The result is a column of parents, counted from 0; the source
 /// and unreachable vertices aren't stored.
 ///
-/// The levels cost what [`levels`](crate::levels) does. Then each column that has entries is read up to the first row that
+/// The levels cost what [`levels`](crate::levels) does, given the transpose as `turned` or not. Then each column that has entries is read up to the first row that
 /// is nearer, with one look-up a row.
 pub fn parents(
     alloc: Global,
     graph: &Block<OrAnd>,
+    turned: Option<&Block<OrAnd>>,
     source: u32,
 ) -> Result<Matrix<MinPlus>, AllocError>
     requires square { graph.now.shape.rows ≡ graph.now.shape.cols }
     requires source { source < graph.now.shape.rows }
+    requires turned { IfSome turned (λ t. t.now ≡ transposed or_and graph.now) }
     ensures parents { IfOk result (AreParents graph.now source) }
     ensures matrix { IfOk result (IsMatrix min_plus) }
 {
     let shape = graph.shape();
     prove_eq!(shape.rows(), shape.cols());
-    let known = level_numbers(alloc, graph, source)?;
+    let known = level_numbers(alloc, graph, turned, source)?;
     let column = parent_column(alloc, graph, &known)?;
     prove_eq!(column.shape(), column_shape(shape));
     Ok(column)

@@ -5,14 +5,14 @@
 //! [settle](crate::dijkstra) one after another, so long walks take no further rounds.
 //!
 //! Levels are found by a [breadth-first search](crate::breadth_first).
-ghost use Rattle.std.specs.Prelude.{◌≡◌, ℕ, ◌<◌, IfOk};
+ghost use Rattle.std.specs.Prelude.{◌≡◌, ℕ, ◌<◌, IfOk, IfSome};
 ghost use Rattle.cb_semirings.specs.Tables.{min_plus, or_and};
 ghost use Rattle.cb_matrix.specs.Sparse.{Sparse, IsMatrix};
 ghost use Rattle.cb_matrix.specs.Operations.{transposed};
 ghost use Rattle.cb_searches.specs.Walks.{AreDistances, AreLevels};
 ghost use Rattle.cb_searches.specs.Searches.{HasEdges, IsWholeSearch};
 
-use crate::breadth_first::{breadth_first, level_numbers};
+use crate::breadth_first::level_numbers;
 use crate::searches::{Search, column_shape};
 use cb_dcsc::Block;
 use cb_matrix::Matrix;
@@ -26,22 +26,44 @@ const ROUNDS: u32 = 16;
 /// weight is the sum of its entries' values, saturating at 2^64 - 1. The result is a column; unreachable vertices and
 /// those at an infinite distance aren't stored.
 ///
-/// The block is transposed once. At most 16 rounds are made. A round costs a few instructions for each
+/// The block is transposed once, unless its transpose is given as `turned`. At most 16 rounds are made. A round costs a few instructions for each
 /// entry of the vertices whose numbers fell in the round before, and, if at least one vertex in 32 fell, for each
 /// vertex. The rest is the algorithm of Dijkstra (1959) with a heap: it costs the entries of the vertices that it
 /// reaches, and for each number that falls the logarithm of how many wait.
 pub fn distances(
     alloc: Global,
     graph: &Block<MinPlus>,
+    turned: Option<&Block<MinPlus>>,
     source: u32,
 ) -> Result<Matrix<MinPlus>, AllocError>
     requires square { graph.now.shape.rows ≡ graph.now.shape.cols }
     requires source { source < graph.now.shape.rows }
+    requires turned { IfSome turned (λ t. t.now ≡ transposed min_plus graph.now) }
     ensures distances { IfOk result (AreDistances graph.now source) }
     ensures matrix { IfOk result (IsMatrix min_plus) }
 {
+    // For the proof alone: the contract of this call says that the block is a matrix.
+    let _shape = graph.shape();
+    if let Some(edges) = turned {
+        return distances_by(alloc, graph, edges, source);
+    }
     let edges = weighted_edges(alloc, graph)?;
-    let column = nearest_by_edges(alloc, &edges, source)?;
+    distances_by(alloc, graph, &edges, source)
+}
+
+/// The same, given the edges.
+fn distances_by(
+    alloc: Global,
+    graph: &Block<MinPlus>,
+    edges: &Block<MinPlus>,
+    source: u32,
+) -> Result<Matrix<MinPlus>, AllocError>
+    requires edges { HasEdges edges.now graph.now }
+    requires source { source < graph.now.shape.rows }
+    ensures distances { IfOk result (AreDistances graph.now source) }
+    ensures matrix { IfOk result (IsMatrix min_plus) }
+{
+    let column = nearest_by_edges(alloc, edges, source)?;
     prove_eq!(column.shape(), column_shape(graph.shape()));
     Ok(column)
 }
@@ -52,41 +74,25 @@ pub fn distances(
 ///
 /// The search goes [from the bottom up](crate::breadth_first) at first, without a transpose. A round costs a look at each
 /// column that has entries, and at the rows of each column without a level, up to the first that a round before reached.
-/// After two looks for each entry in rounds that don't grow fast enough to reach all vertices in two more, or at once if there
-/// are more than four vertices for each entry, the block is transposed, and the search goes on as [`levels_by`].
+/// After five looks for each entry in rounds that don't grow fast enough to reach all vertices in two more, or at once if there
+/// are more than four vertices for each entry, the block is transposed.
+///
+/// Given the transpose of the block as `turned`, or once it is made, each round goes in the direction in which it has less to
+/// read: it costs the edges from the vertices that the round before reached, or what a round up does. A caller who searches a
+/// graph more than once makes the transpose once.
 pub fn levels(
     alloc: Global,
     graph: &Block<OrAnd>,
+    turned: Option<&Block<OrAnd>>,
     source: u32,
 ) -> Result<Matrix<MinPlus>, AllocError>
     requires square { graph.now.shape.rows ≡ graph.now.shape.cols }
     requires source { source < graph.now.shape.rows }
+    requires turned { IfSome turned (λ t. t.now ≡ transposed or_and graph.now) }
     ensures levels { IfOk result (AreLevels graph.now source) }
     ensures matrix { IfOk result (IsMatrix min_plus) }
 {
-    let known = level_numbers(alloc, graph, source)?;
-    known.column(alloc, column_shape(graph.shape()))
-}
-
-/// The level of each vertex from a source, as [`levels`] finds them, in the graph of a square block, given its transpose
-/// too. A caller who searches a graph more than once makes the transpose once.
-///
-/// Each round goes in the [direction](crate::breadth_first) in which it has less to read. It costs the edges from the
-/// vertices that the round before reached, or a look at each column that has entries, and at the rows of each column
-/// without a level, up to the first that is reached.
-pub fn levels_by(
-    alloc: Global,
-    graph: &Block<OrAnd>,
-    turned: &Block<OrAnd>,
-    source: u32,
-) -> Result<Matrix<MinPlus>, AllocError>
-    requires square { graph.now.shape.rows ≡ graph.now.shape.cols }
-    requires source { source < graph.now.shape.rows }
-    requires turned { turned.now ≡ transposed or_and graph.now }
-    ensures levels { IfOk result (AreLevels graph.now source) }
-    ensures matrix { IfOk result (IsMatrix min_plus) }
-{
-    let known = breadth_first(alloc, graph, turned, source)?;
+    let known = level_numbers(alloc, graph, turned, source)?;
     known.column(alloc, column_shape(graph.shape()))
 }
 

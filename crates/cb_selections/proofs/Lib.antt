@@ -1,9 +1,11 @@
+-- Crates above cite ExtractedColumns: rows and columns by their numbers, some of them, and those of some columns.
+--
 -- RegionValues: values in a region. RegionRanges: the part of a column in one. DiagonalColumn: the diagonal as a column.
--- DiagonalPlaces: a column as a diagonal. ExtractedColumns: rows and columns by their numbers. ListedRows: rows whose
+-- DiagonalPlaces: a column as a diagonal. ListedRows: rows whose
 -- numbers ascend. NumberPairs: a walk over pairs of
 -- numbers. ListMade: a column that is made row by row. PairedRows, PairedColumns: those of a Kronecker product.
 -- FunctionResults: the results of a function in place of values. UpdatedPlaces: a matrix updated by another one, place by place. PowerSteps: powers, one product
--- after another.
+-- after another. RangedColumns: the columns of a range, one after another.
 mod AroundRanges
 mod AssignedPart
 mod FunctionResults
@@ -11,7 +13,7 @@ mod RegionValues
 mod RegionRanges
 mod DiagonalColumn
 mod DiagonalPlaces
-mod ExtractedColumns
+pub mod ExtractedColumns
 mod ListedRows
 mod NumberPairs
 mod ListMade
@@ -19,3 +21,4 @@ mod PairedRows
 mod PairedColumns
 mod UpdatedPlaces
 mod PowerSteps
+mod RangedColumns

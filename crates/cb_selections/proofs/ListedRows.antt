@@ -1,8 +1,9 @@
 -- Rows that are listed, in ascending order.
-use Rattle.std.proofs.Common.{◌≡◌, ◌≢◌, ℕ, ◌+◌, ◌<◌, ◌≤◌, cond, List, [], ◌∷◌, ◌++◌, length, take, get_or, set, sym, refl, ap, subst, ◌∙◌, ⊎_elim, arith, length-take}
-use Rattle.std.specs.Prelude.{All, AllPairs, Contains, ◌==◌}
-use Rattle.std.proofs.lemmas.Bool.{cases_lt, cases_eq, cond-true, cond-false, eq-eqb, ne_eqb}
-use Rattle.std.proofs.lemmas.List.{take_more, take_all, get_or-take, length-take-le, length_push, get_or_default, get_or_past, get_or-set_same, get_or-set_other, length-set}
+use Rattle.std.proofs.Common.{◌≡◌, ◌≢◌, ℕ, ◌+◌, ◌<◌, ◌≤◌, cond, List, [], ◌∷◌, ◌++◌, length, take, get_or, set, replicate, sym, refl, ap, subst, ◌∙◌, ⊎_elim, arith, length-take}
+use Rattle.std.specs.Prelude.{All, AllPairs, Contains, ◌==◌, nat_lt}
+use Rattle.std.proofs.lemmas.Bool.{cases_lt, cases_eq, cond-true, cond-false, eq-eqb, ne_eqb, lt-ltb, le-ltb}
+use Rattle.std.proofs.lemmas.List.{take_more, take_all, get_or-take, length-take-le, length_push, get_or_default, get_or_past, get_or-set_same, get_or-set_other, length-set, length-replicate, get_or-replicate, take-set}
+use Rattle.std.proofs.lemmas.Grind.{take-set_at}
 use Rattle.std.proofs.lemmas.List.Elements.{All-nil, All-push, All-weaker, All-get_or, All-from_get_or, All-contains, Contains-get_or}
 use Rattle.cb_semirings.specs.Arithmetic.{Arithmetic, IsValue, IsSemiring}
 use Rattle.cb_matrix.specs.Sparse.{Sparse, IsMatrix, at}
@@ -21,10 +22,19 @@ use Rattle.cb_selections.specs.ListedRows.{ArePlaces, IsListed}
 use Rattle.cb_selections.specs.Extracted.{rows_by}
 
 -- ---- a table of places
--- the table has the places of the first n listed numbers
+-- the table has the places of the first n listed numbers, and numbers past the end of the list for all others
 pub record ArePlacesTo (bound n : ℕ) (listed places : List ℕ) : Type 0 where
   pub count : length places ≡ bound
   pub own : (i : ℕ) → i < n → get_or places (get_or listed i 0) 0 ≡ i
+  pub held : (r : ℕ) → r < bound → get_or places r 0 < length listed → (get_or places r 0 < n) × (get_or listed (get_or places r 0) 0 ≡ r)
+
+-- none yet
+pub places_none : (bound past : ℕ) (listed : List ℕ) → length listed ≤ past → ArePlacesTo bound 0 listed (replicate bound past)
+places_none bound past listed high = record {
+  count = length-replicate bound past;
+  own = λ i b. absurd (omega arith);
+  held = λ r l b. let e : get_or (replicate bound past) r 0 ≡ past = get_or-replicate bound r past 0 l in absurd (omega arith);
+}
 
 -- one more
 pub places_more : (bound n : ℕ) (listed places : List ℕ) → All (λ i. i < bound) listed → AllPairs (λ i j. i < j) listed → n < length listed → ArePlacesTo bound n listed places → ArePlacesTo bound (n + 1) listed (set places (get_or listed n 0) n)
@@ -32,6 +42,7 @@ places_more bound n listed places inside up l h =
     let row = get_or listed n 0 in
     let low : row < bound = All-get_or (λ i. i < bound) listed n 0 l inside in
     let count = h.count in
+    let here : get_or (set places row n) row 0 ≡ n = get_or-set_same places row n 0 (omega arith) in
     record {
       count = length-set places row n ∙ h.count;
       own = λ i b. ⊎_elim
@@ -41,17 +52,35 @@ places_more bound n listed places inside up l h =
           get_or-set_other places row (get_or listed i 0) n 0 other ∙ h.own i before)
           (λ (last : n ≤ i).
           let same : i ≡ n = omega arith in
-          ap (λ k. get_or (set places row n) (get_or listed k 0) 0) same ∙ get_or-set_same places row n 0 (omega arith) ∙ sym same)
+          ap (λ k. get_or (set places row n) (get_or listed k 0) 0) same ∙ here ∙ sym same)
           (cases_lt i n);
+      held = λ r m b. ⊎_elim
+          (λ (same : r ≡ row).
+          let e : get_or (set places row n) r 0 ≡ n = ap (λ k. get_or (set places row n) k 0) same ∙ here in
+          (omega arith, ap (λ k. get_or listed k 0) e ∙ sym same))
+          (λ (n' : r ≡ row → ⊥).
+          let other : r ≢ row = n' in
+          let e : get_or (set places row n) r 0 ≡ get_or places r 0 = get_or-set_other places row r n 0 other in
+          let old = h.held r m (omega arith) in
+          let before = old.0 in
+          (omega arith, ap (λ k. get_or listed k 0) e ∙ old.1))
+          (cases_eq r row);
     }
 
--- a number that isn't at its place isn't listed
-pub not_listed : (bound number : ℕ) (listed places : List ℕ) → ArePlaces bound listed places → (get_or places number 0 < length listed → get_or listed (get_or places number 0) 0 ≢ number) → All (λ r. r ≢ number) listed
-not_listed bound number listed places are missed =
+-- with all, it is the table
+pub places_all : (bound n : ℕ) (listed places : List ℕ) → length listed ≤ n → ArePlacesTo bound n listed places → ArePlaces bound listed places
+places_all bound n listed places l h = record {
+  count = h.count;
+  own = λ i b. h.own i (omega arith);
+  held = λ r m b. (h.held r m b).1;
+}
+
+-- a number without a place isn't listed
+pub not_listed : (bound number : ℕ) (listed places : List ℕ) → ArePlaces bound listed places → length listed ≤ get_or places number 0 → All (λ r. r ≢ number) listed
+not_listed bound number listed places are past =
     All-from_get_or (λ r. r ≢ number) listed 0 (λ i l e.
     let place : get_or places number 0 ≡ i = ap (λ r. get_or places r 0) (sym e) ∙ are.own i l in
-    let b : get_or places number 0 < length listed = omega arith in
-    missed b (ap (λ k. get_or listed k 0) place ∙ e))
+    omega arith)
 
 -- ---- the entries of a column in listed rows
 -- those among the first k entries
@@ -155,6 +184,23 @@ module _ (listed : List ℕ) (listed_up : AllPairs (λ i j. i < j) listed) (rows
       next = later ks (h.next l);
       value = λ z i b. h.value z i b ∙ sym (front z (get_or listed i 0) ∙ cond-false _ _ _ (ne_eqb row (get_or listed i 0) (λ e. All-get_or (λ r. r ≢ row) listed i 0 b none (sym e))));
     }
+
+    -- its place is written behind the others in any case, and stays there if it is in a listed row
+    pub listed_written : (xs ws : List ℕ) (bound count next : ℕ) (places : List ℕ) → ArePlaces bound listed places → row < bound → count < length xs → count < length ws
+        → next ≡ count + cond (nat_lt (get_or places row 0) (length listed)) 1 0 → IsListedTo listed rows values k (take count xs) (take count ws)
+        → IsListedTo listed rows values (k + 1) (take next (set xs count (get_or places row 0))) (take next (set ws count old))
+    listed_written xs ws bound count next places are low x w is_next h =
+        let place = get_or places row 0 in
+        ⊎_elim
+        (λ (b : place < length listed).
+        let more : next ≡ count + 1 = is_next ∙ ap (λ n. count + n) (cond-true _ _ _ (lt-ltb place (length listed) b)) in
+        listed_same (k + 1) (take count xs ++ place ∷ []) (take count ws ++ old ∷ []) _ _ (take-set_at xs count next place more x) (take-set_at ws count next old more w)
+        (listed_kept (take count xs) (take count ws) place b (are.held row low b) h))
+        (λ (b : length listed ≤ place).
+        let same : next ≡ count = is_next ∙ ap (λ n. count + n) (cond-false _ _ _ (le-ltb place (length listed) b)) ∙ (omega arith) in
+        listed_same (k + 1) (take count xs) (take count ws) _ _ (ap (λ n. take n (set xs count place)) same ∙ take-set xs count place) (ap (λ n. take n (set ws count old)) same ∙ take-set ws count old)
+        (listed_dropped (take count xs) (take count ws) (not_listed bound row listed places are b) h))
+        (cases_lt place (length listed))
 
   -- all
   pub listed_all : (k : ℕ) (ks ws : List ℕ) → length rows ≤ k → IsListedTo listed rows values k ks ws → IsListed listed rows values ks ws

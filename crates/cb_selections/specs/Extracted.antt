@@ -1,10 +1,12 @@
 -- Rows and columns of a matrix by their numbers.
-use Rattle.std.specs.Prelude.{ℕ, ◌<◌, ◌≤◌, List, Option, None, Some, length, slice_index, All}
+use Rattle.std.specs.Prelude.{ℕ, ◌<◌, ◌≤◌, Bool, List, Option, None, Some, length, slice_index, All}
 use Rattle.std.specs.List.{range_with_len}
 use Rattle.cb_semirings.specs.Arithmetic.{Arithmetic}
 use Rattle.cb_matrix.specs.declared.TheConstants.{LIMIT}
 use Rattle.cb_matrix.specs.Sparse.{Sparse, at}
 use Rattle.cb_matrix.specs.Values.{matrix_of}
+use Rattle.cb_operations.specs.Regions.{where_true}
+use Rattle.cb_reshape.specs.Rows.{is_row_of}
 
 -- the rows and columns with the given numbers, in that order
 abbrev pub extracted : Arithmetic → List ℕ → List ℕ → Sparse → Sparse
@@ -39,3 +41,17 @@ AreBelow n None = Unit {0}
 -- the rows and columns that two lists name, in that order; without a list, all of them
 abbrev pub extracted_by : Arithmetic → Option (List ℕ) → Option (List ℕ) → Sparse → Sparse
 extracted_by s rows cols a = extracted s (listed_or_all rows a.shape.rows) (listed_or_all cols a.shape.cols) a
+
+-- ---- their columns at some places of the list of columns, from one up to, but not including, another; the others are empty
+-- whether a place is one of these
+abbrev pub is_between : ℕ → ℕ → ℕ → Bool
+is_between first end j = is_row_of (first, end) j
+
+abbrev pub extracted_between : Arithmetic → List ℕ → List ℕ → ℕ → ℕ → Sparse → Sparse
+extracted_between s rows cols first end a =
+    matrix_of s (record { rows = length rows; cols = length cols }) (λ i j. where_true s.zero (is_between first end j) (at s a (slice_index rows i) (slice_index cols j)))
+
+-- of all rows
+abbrev pub columns_between : Arithmetic → List ℕ → ℕ → ℕ → Sparse → Sparse
+columns_between s cols first end a =
+    matrix_of s (record { rows = a.shape.rows; cols = length cols }) (λ i j. where_true s.zero (is_between first end j) (at s a i (slice_index cols j)))

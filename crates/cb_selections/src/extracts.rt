@@ -1,13 +1,16 @@
 //! Rows and columns of a block by their numbers.
 //!
 //! Columns are found one by one. Rows are the columns of the transpose; but where their numbers ascend, their entries stay in
-//! order, so each entry's row is looked up instead, in a table with a place for each row of the block.
-ghost use Rattle.std.specs.Prelude.{◌≡◌, ◌≢◌, ℕ, ◌<◌, ◌≤◌, IsTrue, None, option_copied, length, slice_index, All, AllPairs, IfOk, IfSome, IfNone, OnOk};
+//! order, so each entry's row is looked up instead, in a table with a place for each row of the block. Whether a row is listed
+//! can't be predicted, so its entry is written in any case, and the next one over it if it isn't.
+//!
+//! The columns of a range of the result are made alone, so that threads can share them.
+ghost use Rattle.std.specs.Prelude.{◌≡◌, ℕ, ◌<◌, ◌≤◌, IsTrue, None, option_copied, length, take, slice_index, All, AllPairs, IfOk, OnOk};
 ghost use Rattle.cb_semirings.specs.Arithmetic.{IsValue};
 ghost use Rattle.cb_matrix.specs.Sparse.{IsMatrix};
 ghost use Rattle.cb_matrix.specs.Values.{empty_matrix};
 ghost use Rattle.cb_dcsc.specs.Columns.{in_column, rows_of, values_of};
-ghost use Rattle.cb_selections.specs.Extracted.{AreBelow, AreFew, extracted, extracted_by, rows_by, columns_by};
+ghost use Rattle.cb_selections.specs.Extracted.{AreBelow, AreFew, columns_between, extracted_between, extracted_by, listed_or_all, rows_by, columns_by};
 ghost use Rattle.cb_selections.specs.ListedRows.{ArePlaces, IsListed};
 
 use crate::shape_of;
@@ -38,7 +41,7 @@ pub fn extract<S: Semiring>(
     ensures { IfOk result (λ part. part ≡ extracted_by S.arithmetic (option_copied rows.entry) (option_copied cols.entry) block.now) }
 {
     match (rows, cols) {
-        (Some(rows), Some(cols)) => extract_both(alloc, block, rows, cols),
+        (Some(rows), Some(cols)) => both_between(alloc, block, rows, cols, 0, cols.len()),
         (Some(rows), None) => extract_rows(alloc, block, rows),
         (None, Some(cols)) => extract_columns(alloc, block, cols),
         (None, None) => copy(block),
@@ -53,24 +56,153 @@ fn copy<S: Semiring>(block: &Block<S>) -> Result<Block<S>, AllocError>
     block.try_clone()
 }
 
-/// The rows and columns with the given numbers.
-fn extract_both<S: Semiring>(
+/// The columns, at the places from `first` up to, but not including, `end` of the list of column numbers, of the matrix of the
+/// rows and columns of a block with the given numbers ([`extract`]), in a block of its shape.
+///
+/// Costs what these columns cost.
+pub fn extract_between<S: Semiring>(
+    alloc: Global,
+    block: &Block<S>,
+    rows: Option<&[u32]>,
+    cols: &[u32],
+    first: usize,
+    end: usize,
+) -> Result<Block<S>, AllocError>
+    requires rows { AreBelow block.now.shape.rows (option_copied rows) }
+    requires row_limit { AreFew (option_copied rows) }
+    requires column_limit { length cols.now ≤ LIMIT }
+    requires order { first ≤ end }
+    requires within { end ≤ length cols.now }
+    ensures { IfOk result (λ part. part ≡ extracted_between S.arithmetic (listed_or_all (option_copied rows.entry) block.now.shape.rows) cols.now first end block.now) }
+{
+    match rows {
+        Some(rows) => both_between(alloc, block, rows, cols, first, end),
+        None => columns_between(alloc, block, cols, first, end),
+    }
+}
+
+/// The same of listed rows.
+fn both_between<S: Semiring>(
     alloc: Global,
     block: &Block<S>,
     rows: &[u32],
     cols: &[u32],
+    first: usize,
+    end: usize,
 ) -> Result<Block<S>, AllocError>
     requires rows { All (λ i. i < block.now.shape.rows) rows.now }
-    requires cols { All (λ j. j < block.now.shape.cols) cols.now }
     requires row_limit { length rows.now ≤ LIMIT }
     requires column_limit { length cols.now ≤ LIMIT }
-    ensures { IfOk result (λ part. part ≡ extracted S.arithmetic rows.now cols.now block.now) }
+    requires order { first ≤ end }
+    requires within { end ≤ length cols.now }
+    ensures { IfOk result (λ part. part ≡ extracted_between S.arithmetic rows.now cols.now first end block.now) }
 {
-    let some = extract_columns(alloc, block, cols)?;
-    if are_all(rows, some.shape().rows()) {
-        return Ok(some);
+    if are_all(rows, block.shape().rows()) {
+        return columns_between(alloc, block, cols, first, end);
     }
-    some_rows(alloc, &some, rows)
+    let entries = entries_between(block, cols, first, end);
+    if pays_table(block.shape().rows(), rows.len(), entries) && ascends(rows) {
+        return listed_between(alloc, block, rows, cols, first, end, entries);
+    }
+    let some = columns_between(alloc, block, cols, first, end)?;
+    turned_rows(alloc, &some, rows)
+}
+
+/// How many entries these columns of a block have together.
+fn entries_between<S: Semiring>(block: &Block<S>, cols: &[u32], first: usize, end: usize) -> usize
+    requires order { first ≤ end }
+    requires within { end ≤ length cols.now }
+{
+    let mut count = 0usize;
+    let mut missing = 0usize;
+    for n in first..end {
+        let place = place_near(block.column_numbers(), cols[n], missing);
+        missing = (cols[n] as usize).saturating_sub(place);
+        let (rows, _values) = column_of(block, cols[n], place);
+        count = count.saturating_add(rows.len());
+    }
+    count
+}
+
+/// Whether a table of all rows of a block costs no more than its listed rows or the entries that are looked up.
+fn pays_table(height: u32, listed: usize, entries: usize) -> bool {
+    height as usize / ROWS_PER_PLACE <= listed.max(entries)
+}
+
+/// The same columns, of the listed rows, which ascend.
+fn listed_between<S: Semiring>(
+    alloc: Global,
+    block: &Block<S>,
+    listed: &[u32],
+    cols: &[u32],
+    first: usize,
+    end: usize,
+    entries: usize,
+) -> Result<Block<S>, AllocError>
+    requires rows { All (λ i. i < block.now.shape.rows) listed.now }
+    requires row_limit { length listed.now ≤ LIMIT }
+    requires column_limit { length cols.now ≤ LIMIT }
+    requires ascending { AllPairs (λ i j. i < j) listed.now }
+    requires order { first ≤ end }
+    requires within { end ≤ length cols.now }
+    ensures { IfOk result (λ part. part ≡ extracted_between S.arithmetic listed.now cols.now first end block.now) }
+{
+    let height = block.shape().rows();
+    let places = places_of(alloc, height, listed)?;
+    let mut out = Block::empty(alloc, shape_of(listed.len() as u32, cols.len() as u32));
+    out.reserve(expected(height, listed.len(), entries))?;
+    let mut rows = Vec::new(alloc);
+    let mut values = Vec::new(alloc);
+    push_both(
+        &mut out,
+        &mut rows,
+        &mut values,
+        block,
+        listed,
+        &places,
+        cols,
+        first,
+        end,
+    )?;
+    Ok(out)
+}
+
+/// About how many of these entries are in listed rows, if no row has more of them than others.
+fn expected(height: u32, listed: usize, entries: usize) -> usize {
+    entries.saturating_mul(listed) / (height as usize).max(1)
+}
+
+/// Stores the listed rows of these columns in an empty block. The lists hold one column at a time.
+fn push_both<S: Semiring>(
+    out: &mut Block<S>,
+    kept_rows: &mut Vec<u32>,
+    kept_values: &mut Vec<u64>,
+    block: &Block<S>,
+    listed: &[u32],
+    places: &[u32],
+    cols: &[u32],
+    first: usize,
+    end: usize,
+) -> Result<(), AllocError>
+    requires matrix { IsMatrix S.arithmetic block.now }
+    requires out_matrix { IsMatrix S.arithmetic out.old }
+    requires empty { out.old ≡ empty_matrix (record { rows = length listed.now; cols = length cols.now }) }
+    requires ascending { AllPairs (λ i j. i < j) listed.now }
+    requires places { ArePlaces block.now.shape.rows listed.now places.now }
+    requires column_limit { length cols.now ≤ LIMIT }
+    requires order { first ≤ end }
+    requires within { end ≤ length cols.now }
+    ensures { OnOk result (out.new ≡ extracted_between S.arithmetic listed.now cols.now first end block.now) }
+{
+    let mut missing = 0usize;
+    for n in first..end {
+        let place = place_near(block.column_numbers(), cols[n], missing);
+        missing = (cols[n] as usize).saturating_sub(place);
+        let (rows, values) = column_of(block, cols[n], place);
+        let count = keep_listed(kept_rows, kept_values, rows, values, listed, places)?;
+        out.push_column(n as u32, &kept_rows[..count], &kept_values[..count])?;
+    }
+    Ok(())
 }
 
 /// The rows of a block with the given numbers, in that order. A number may appear more than once.
@@ -103,8 +235,7 @@ fn some_rows<S: Semiring>(
     requires limit { length rows.now ≤ LIMIT }
     ensures { IfOk result (λ part. part ≡ rows_by S.arithmetic rows.now block.now) }
 {
-    let height = block.shape().rows() as usize;
-    if height / ROWS_PER_PLACE <= rows.len().max(block.len()) && ascends(rows) {
+    if pays_table(block.shape().rows(), rows.len(), block.len()) && ascends(rows) {
         return listed_rows(alloc, block, rows);
     }
     turned_rows(alloc, block, rows)
@@ -168,34 +299,19 @@ fn listed_rows<S: Semiring>(
     Ok(out)
 }
 
-/// A table with a place for each number below a bound: where that number is in the list, if it is listed, and else any.
+/// A table with a place for each number below a bound: where that number is in the list, or a number past its end if it isn't
+/// listed.
 fn places_of(alloc: Global, bound: u32, listed: &[u32]) -> Result<Vec<u32>, AllocError>
     requires inside { All (λ i. i < bound) listed.now }
     requires limit { length listed.now ≤ LIMIT }
     requires ascending { AllPairs (λ i j. i < j) listed.now }
     ensures { IfOk result (λ v. ArePlaces bound listed.now v.items) }
 {
-    let mut places = vec![in alloc; 0u32; bound as usize]?;
+    let mut places = vec![in alloc; u32::MAX; bound as usize]?;
     for n in 0..listed.len() {
         places[listed[n] as usize] = n as u32;
     }
     Ok(places)
-}
-
-/// Where a number is in the list, if it is listed.
-#[inline(always)]
-fn place_of(listed: &[u32], places: &[u32], number: u32) -> Option<u32>
-    requires inside { number < length places.now }
-    requires places { ArePlaces (length places.now) listed.now places.now }
-    ensures some { IfSome result (λ i. i < length listed.now × (slice_index listed.now i ≡ number)) }
-    ensures none { IfNone result (All (λ r. r ≢ number) listed.now) }
-{
-    let place = places[number as usize];
-    if (place as usize) < listed.len() && listed[place as usize] == number {
-        Some(place)
-    } else {
-        None
-    }
 }
 
 /// Stores the listed rows in an empty block. The lists hold one column at a time.
@@ -218,13 +334,14 @@ fn push_listed<S: Semiring>(
     let columns = block.column_numbers();
     for n in 0..columns.len() {
         let (rows, values) = block.nth_column(n);
-        keep_listed(kept_rows, kept_values, rows, values, listed, places)?;
-        out.push_column(columns[n], kept_rows, kept_values)?;
+        let count = keep_listed(kept_rows, kept_values, rows, values, listed, places)?;
+        out.push_column(columns[n], &kept_rows[..count], &kept_values[..count])?;
     }
     Ok(())
 }
 
-/// Fills the two lists with the entries of a column that are in listed rows. The row of each is its place in the list.
+/// Writes the entries of a column that are in listed rows to the fronts of two lists, and returns how many they are. The row
+/// of each is its place in the list of rows.
 fn keep_listed(
     kept_rows: &mut Vec<u32>,
     kept_values: &mut Vec<u64>,
@@ -232,28 +349,66 @@ fn keep_listed(
     values: &[u64],
     listed: &[u32],
     places: &[u32],
-) -> Result<(), AllocError>
+) -> Result<usize, AllocError>
     requires count { length values.now ≡ length rows.now }
     requires rows { AllPairs (λ i j. i < j) rows.now }
     requires inside { All (λ i. i < length places.now) rows.now }
     requires ascending { AllPairs (λ i j. i < j) listed.now }
     requires places { ArePlaces (length places.now) listed.now places.now }
-    ensures { OnOk result (IsListed listed.now rows.now values.now kept_rows.new.items kept_values.new.items) }
+    ensures rows_room { IfOk result (λ n. n ≤ length kept_rows.new.items) }
+    ensures values_room { IfOk result (λ n. n ≤ length kept_values.new.items) }
+    ensures listed { IfOk result (λ n. IsListed listed.now rows.now values.now (take n kept_rows.new.items) (take n kept_values.new.items)) }
 {
-    kept_rows.clear();
-    kept_values.clear();
-    for n in 0..rows.len() {
-        if let Some(place) = place_of(listed, places, rows[n]) {
-            kept_rows.push(place)?;
-            kept_values.push(values[n])?;
-        }
+    make_room(kept_rows, 0, rows.len())?;
+    make_room(kept_values, 0, rows.len())?;
+    Ok(write_listed(kept_rows, kept_values, rows, values, listed, places))
+}
+
+/// Lengthens a list, if need be, to this many items.
+fn make_room<T: Copy>(list: &mut Vec<T>, item: T, count: usize) -> Result<(), AllocError>
+    ensures { OnOk result (count ≤ length list.new.items) }
+{
+    if list.len() < count {
+        list.resize(count, item)?;
     }
     Ok(())
 }
 
+/// The same, with room in the two lists.
+#[inline(always)]
+fn write_listed(
+    kept_rows: &mut Vec<u32>,
+    kept_values: &mut Vec<u64>,
+    rows: &[u32],
+    values: &[u64],
+    listed: &[u32],
+    places: &[u32],
+) -> usize
+    requires count { length values.now ≡ length rows.now }
+    requires rows { AllPairs (λ i j. i < j) rows.now }
+    requires inside { All (λ i. i < length places.now) rows.now }
+    requires ascending { AllPairs (λ i j. i < j) listed.now }
+    requires places { ArePlaces (length places.now) listed.now places.now }
+    requires rows_room { length rows.now ≤ length kept_rows.old.items }
+    requires values_room { length rows.now ≤ length kept_values.old.items }
+    ensures rows_room { result ≤ length kept_rows.new.items }
+    ensures values_room { result ≤ length kept_values.new.items }
+    ensures listed { IsListed listed.now rows.now values.now (take result kept_rows.new.items) (take result kept_values.new.items) }
+{
+    let mut count = 0usize;
+    for n in 0..rows.len() {
+        let place = places[rows[n] as usize];
+        kept_rows[count] = place;
+        kept_values[count] = values[n];
+        count += usize::from((place as usize) < listed.len());
+    }
+    count
+}
+
 /// The columns of a block with the given numbers, in that order. A number may appear more than once.
 ///
-/// Costs a copy of the entries of the result, and a binary search for each number of which a smaller one has no entries.
+/// Costs a copy of the entries of the result, and at most two binary searches for each number: none if as many smaller ones
+/// have no entries as for the number before it.
 pub fn extract_columns<S: Semiring>(
     alloc: Global,
     block: &Block<S>,
@@ -262,43 +417,80 @@ pub fn extract_columns<S: Semiring>(
     requires { length columns.now ≤ LIMIT }
     ensures { IfOk result (λ part. part ≡ columns_by S.arithmetic columns.now block.now) }
 {
+    columns_between(alloc, block, columns, 0, columns.len())
+}
+
+/// The same, of the columns at the places from `first` up to, but not including, `end` of their list. The others are empty.
+fn columns_between<S: Semiring>(
+    alloc: Global,
+    block: &Block<S>,
+    columns: &[u32],
+    first: usize,
+    end: usize,
+) -> Result<Block<S>, AllocError>
+    requires limit { length columns.now ≤ LIMIT }
+    requires order { first ≤ end }
+    requires within { end ≤ length columns.now }
+    ensures { IfOk result (λ part. part ≡ columns_between S.arithmetic columns.now first end block.now) }
+{
     let shape = shape_of(block.shape().rows(), columns.len() as u32);
     let mut out = Block::empty(alloc, shape);
-    push_columns(&mut out, block, columns)?;
+    out.reserve(entries_between(block, columns, first, end))?;
+    push_columns(&mut out, block, columns, first, end)?;
     Ok(out)
 }
 
-/// Stores the columns with the given numbers in an empty block.
+/// Stores these columns in an empty block.
 fn push_columns<S: Semiring>(
     out: &mut Block<S>,
     block: &Block<S>,
     columns: &[u32],
+    first: usize,
+    end: usize,
 ) -> Result<(), AllocError>
     requires limit { length columns.now ≤ LIMIT }
     requires matrix { IsMatrix S.arithmetic block.now }
     requires out_matrix { IsMatrix S.arithmetic out.old }
     requires empty { out.old ≡ empty_matrix (record { rows = block.now.shape.rows; cols = length columns.now }) }
-    ensures { OnOk result (out.new ≡ columns_by S.arithmetic columns.now block.now) }
+    requires order { first ≤ end }
+    requires within { end ≤ length columns.now }
+    ensures { OnOk result (out.new ≡ columns_between S.arithmetic columns.now first end block.now) }
 {
-    for n in 0..columns.len() {
-        let (rows, values) = column_of(block, columns[n]);
+    let mut missing = 0usize;
+    for n in first..end {
+        let place = place_near(block.column_numbers(), columns[n], missing);
+        missing = (columns[n] as usize).saturating_sub(place);
+        let (rows, values) = column_of(block, columns[n], place);
         out.push_column(n as u32, rows, values)?;
     }
     Ok(())
 }
 
-/// The rows of a column and its values. It isn't searched for if all columns before it have entries.
+/// Where a column is among those that have entries, or where it would be. It isn't searched for if as many columns as before
+/// another one have no entries.
 #[inline(always)]
-fn column_of<S: Semiring>(block: &Block<S>, column: u32) -> (&[u32], &[u64])
+fn place_near(columns: &[u32], column: u32, missing: usize) -> usize {
+    let place = (column as usize).saturating_sub(missing);
+    if place < columns.len() && columns[place] == column {
+        return place;
+    }
+    match columns.binary_search(&column) {
+        Ok(place) => place,
+        Err(place) => place,
+    }
+}
+
+/// The rows of a column and its values. If it isn't at this place among the columns that have entries, it is searched for.
+#[inline(always)]
+fn column_of<S: Semiring>(block: &Block<S>, column: u32, place: usize) -> (&[u32], &[u64])
     ensures rows { result.0.now ≡ rows_of (in_column column block.now.entries) }
     ensures values { result.1.now ≡ values_of (in_column column block.now.entries) }
     ensures ascending { AllPairs (λ i j. i < j) result.0.now }
     ensures are_values { All (IsValue S.arithmetic) result.1.now }
 {
     let columns = block.column_numbers();
-    let n = column as usize;
-    if n < columns.len() && columns[n] == column {
-        return block.nth_column(n);
+    if place < columns.len() && columns[place] == column {
+        return block.nth_column(place);
     }
     block.column(column)
 }

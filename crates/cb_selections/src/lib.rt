@@ -39,7 +39,7 @@ use cb_matrix::{LIMIT, Shape};
 use cb_operations::{Function, Region};
 use cb_semirings::Semiring;
 pub use diagonals::{diagonal, diagonal_matrix};
-pub use extracts::{extract, extract_columns, extract_rows};
+pub use extracts::{extract, extract_between, extract_columns, extract_rows};
 pub use kronecker_products::kronecker;
 pub use powers::power;
 pub use selections::{SelectionFault, binary, compute, unary};

@@ -12,3 +12,5 @@ mod operands;
 mod panels;
 #[cfg(test)]
 mod shares;
+#[cfg(test)]
+mod sums;

@@ -2,7 +2,7 @@
 use Rattle.std.proofs.Common.{◌≡◌, ℕ, ◌<◌, true, false, cond, List, sym, refl, ap, ◌∙◌, ⊎_elim}
 use Rattle.std.specs.Prelude.{◌==◌, not}
 use Rattle.std.specs.List.{range_with_len}
-use Rattle.std.proofs.lemmas.Bool.{cases_Bool, eq-eqb}
+use Rattle.std.proofs.lemmas.Bool.{cases_Bool, cond-true, cond-false, eq-eqb}
 use Rattle.cb_semirings.specs.Arithmetic.{Arithmetic, IsValue, IsSemiring}
 use Rattle.cb_matrix.specs.Sparse.{Sparse, Extent, IsMatrix, at}
 use Rattle.cb_matrix.specs.Values.{matrix_of, product, product_shape}
@@ -20,17 +20,31 @@ use Rattle.cb_product.proofs.ProductColumns.{inner, inner_value}
 pub only_none : (s : Arithmetic) (cs : List ℕ) (m : Sparse) (i j : ℕ) → is_among cs j ≡ false → at s (only_columns cs m) i j ≡ s.zero
 only_none s cs m i j f = absent_value s.zero (only_columns cs m).entries cs i j (only_in cs m) (not_among cs j f)
 
--- listed columns of the matrix of f are the matrix of g, if g has the values of f in these columns and zeros elsewhere
-pub only_of : (s : Arithmetic) → IsSemiring s → (shape : Extent) (f g : ℕ → ℕ → ℕ) (cs : List ℕ) → ((i j : ℕ) → i < shape.rows → j < shape.cols → IsValue s (f i j))
-    → ((i j : ℕ) → is_among cs j ≡ true → g i j ≡ f i j) → ((i j : ℕ) → is_among cs j ≡ false → g i j ≡ s.zero) → matrix_of s shape g ≡ only_columns cs (matrix_of s shape f)
-only_of s laws shape f g cs are same none =
+-- listed columns of the matrix of f are the matrix of g, if inside the shape g has the values of f in these columns and zeros
+-- elsewhere
+pub only_inside : (s : Arithmetic) → IsSemiring s → (shape : Extent) (f g : ℕ → ℕ → ℕ) (cs : List ℕ) → ((i j : ℕ) → i < shape.rows → j < shape.cols → IsValue s (f i j))
+    → ((i j : ℕ) → j < shape.cols → is_among cs j ≡ true → g i j ≡ f i j) → ((i j : ℕ) → is_among cs j ≡ false → g i j ≡ s.zero) → matrix_of s shape g ≡ only_columns cs (matrix_of s shape f)
+only_inside s laws shape f g cs are same none =
     let whole : Sparse = matrix_of s shape f in
     sym
     (matrix_is s laws (only_columns cs whole) shape g (only_matrix s cs whole (IsMatrix-matrix_of s shape f are)) refl
     (λ i j li lj. ⊎_elim
-    (λ (t : is_among cs j ≡ true). only_value s.zero cs whole i j t ∙ at-matrix_of s shape f i j li lj ∙ sym (same i j t))
+    (λ (t : is_among cs j ≡ true). only_value s.zero cs whole i j t ∙ at-matrix_of s shape f i j li lj ∙ sym (same i j lj t))
     (λ (u : is_among cs j ≡ false). only_none s cs whole i j u ∙ sym (none i j u))
     (cases_Bool (is_among cs j))))
+
+-- if it has these values everywhere
+pub only_of : (s : Arithmetic) → IsSemiring s → (shape : Extent) (f g : ℕ → ℕ → ℕ) (cs : List ℕ) → ((i j : ℕ) → i < shape.rows → j < shape.cols → IsValue s (f i j))
+    → ((i j : ℕ) → is_among cs j ≡ true → g i j ≡ f i j) → ((i j : ℕ) → is_among cs j ≡ false → g i j ≡ s.zero) → matrix_of s shape g ≡ only_columns cs (matrix_of s shape f)
+only_of s laws shape f g cs are same none = only_inside s laws shape f g cs are (λ i j _ t. same i j t) none
+
+-- matrices of functions that agree in listed columns have the same of these
+pub only_same : (s : Arithmetic) → IsSemiring s → (shape : Extent) (f g : ℕ → ℕ → ℕ) (cs : List ℕ) → ((i j : ℕ) → i < shape.rows → j < shape.cols → IsValue s (f i j)) → ((i j : ℕ) → i < shape.rows → j < shape.cols → IsValue s (g i j))
+    → ((i j : ℕ) → j < shape.cols → is_among cs j ≡ true → g i j ≡ f i j) → only_columns cs (matrix_of s shape g) ≡ only_columns cs (matrix_of s shape f)
+only_same s laws shape f g cs are are' same =
+    let some : ℕ → ℕ → ℕ = λ i j. cond (is_among cs j) (f i j) s.zero in
+    sym (only_inside s laws shape g some cs are' (λ i j l t. cond-true (is_among cs j) (f i j) s.zero t ∙ sym (same i j l t)) (λ i j u. cond-false (is_among cs j) (f i j) s.zero u))
+    ∙ only_inside s laws shape f some cs are (λ i j _ t. cond-true (is_among cs j) (f i j) s.zero t) (λ i j u. cond-false (is_among cs j) (f i j) s.zero u)
 
 module _ (s : Arithmetic) (laws : IsSemiring s) (a b : Sparse) (is_a : IsMatrix s a) (is_b : IsMatrix s b) where
   -- a product is a matrix

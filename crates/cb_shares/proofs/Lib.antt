@@ -11,14 +11,22 @@ pub mod Neighbours
 -- products with some columns are some columns of products. ByColumns: so are sums and products place by place, prunes and
 -- sums of columns, and selections and updates by columns. PlaceColumns: a walk over columns of a matrix, of which each is
 -- stored. PanelColumns: some columns of a matrix in panels. PanelsBefore: panels whose columns are
--- before others. PanelTotals: the sum of all values, panel by panel. Ends, LaterEnds: where ranges end.
+-- before others. ListedColumns: those of rows and columns by their numbers. OuterColumns: those of a Kronecker product.
+-- PanelTotals: the sum of all values, panel by panel. Ends, LaterEnds: where ranges end. EntryRanges: where the entries of a
+-- range of columns are among all. SumShares: sums over columns, made in shares; PanelSums: the
+-- sum of all values in some columns, panel by panel.
 mod ColumnPlaces
 mod ColumnValues
 mod ByColumns
 mod PlaceColumns
+mod ListedColumns
+mod OuterColumns
 mod PanelColumns
 mod PanelsBefore
 mod TurnedColumns
 mod PanelTotals
 mod Ends
 mod LaterEnds
+mod EntryRanges
+mod SumShares
+mod PanelSums

@@ -15,19 +15,19 @@ use Rattle.cb_shares.specs.Shares.{columns_from, panel, AreBefore, JoinsPanels}
 use Rattle.cb_shares.proofs.Ranges.{range_holds, range_has, same_answer, kept_same, all_columns}
 
 -- whether an entry is in a range of columns
-abbrev in_range : ℕ → ℕ → Entry → Bool
+abbrev pub in_range : ℕ → ℕ → Entry → Bool
 in_range first end e = is_among (columns_from first end) e.column
 
-none_kept : (p : Entry → Bool) (es : List Entry) → All (λ e. p e ≡ false) es → filter p es ≡ []
+pub none_kept : (p : Entry → Bool) (es : List Entry) → All (λ e. p e ≡ false) es → filter p es ≡ []
 none_kept p [] h = refl
 none_kept p (e ∷ es) h = let here = All-head (λ e. p e ≡ false) e es h in (λ i. cond (here i) (e ∷ filter p es) (filter p es)) ∙ none_kept p es (All-tail (λ e. p e ≡ false) e es h)
 
 -- an entry before the end of a range isn't in the next one
-not_next : (q r : ℕ) (e : Entry) → e.column < q → in_range q r e ≡ false
+pub not_next : (q r : ℕ) (e : Entry) → e.column < q → in_range q r e ≡ false
 not_next q r e l = false_from_ne_true (in_range q r e) (λ t. let h = range_holds q r e.column t in let h0 = h.0 in absurd (omega arith))
 
 -- an entry after it isn't in the range
-not_in : (p q : ℕ) (e : Entry) → q ≤ e.column → in_range p q e ≡ false
+pub not_in : (p q : ℕ) (e : Entry) → q ≤ e.column → in_range p q e ≡ false
 not_in p q e l = false_from_ne_true (in_range p q e) (λ t. let h = range_holds p q e.column t in let h1 = h.1 in absurd (omega arith))
 
 -- of both ranges it is in the first

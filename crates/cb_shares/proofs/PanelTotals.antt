@@ -48,14 +48,14 @@ module _ (s : Arithmetic) (laws : IsSemiring s) (shape : Extent) (xs ys : List E
   abbrev both : Sparse
   both = record { shape = shape; entries = xs ++ ys }
 
-  front_value : (i j : ℕ) → IsValue s (at s front i j)
+  pub front_value : (i j : ℕ) → IsValue s (at s front i j)
   front_value i j = value_at-value s laws xs i j (All-front (λ (e : Entry). IsValue s e.value) xs ys is.values)
 
-  back_value : (i j : ℕ) → IsValue s (at s back i j)
+  pub back_value : (i j : ℕ) → IsValue s (at s back i j)
   back_value i j = value_at-value s laws ys i j (All-back (λ (e : Entry). IsValue s e.value) xs ys is.values)
 
   -- a place has the sum of what the two have there, of which one is zero
-  at_sum : (i j : ℕ) → at s both i j ≡ s.add (at s front i j) (at s back i j)
+  pub at_sum : (i j : ℕ) → at s both i j ≡ s.add (at s front i j) (at s back i j)
   at_sum i j =
       ⊎_elim
       (λ (none : at s front i j ≡ s.zero).

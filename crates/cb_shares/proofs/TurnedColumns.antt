@@ -7,7 +7,6 @@ use Rattle.cb_matrix.specs.Sparse.{Sparse, IsMatrix, at}
 use Rattle.cb_matrix.specs.Operations.{transposed}
 use Rattle.cb_matrix.proofs.Made.{at-outside}
 use Rattle.cb_matrix.proofs.Totals.{value_at-value}
-use Rattle.cb_product.specs.InColumns.{is_among}
 use Rattle.cb_reshape.specs.Rows.{rows_within}
 use Rattle.cb_reshape.proofs.Within.{row_in, row_out, within_value, within_none}
 use Rattle.cb_shares.specs.Shares.{columns_from, panel}

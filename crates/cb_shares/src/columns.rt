@@ -69,7 +69,7 @@ pub(crate) fn only_between<S: Semiring>(
 }
 
 /// The place of the first of these columns among those that have entries, and the place after the last.
-fn places_between<S: Semiring>(block: &Block<S>, first: u32, end: u32) -> (usize, usize)
+pub(crate) fn places_between<S: Semiring>(block: &Block<S>, first: u32, end: u32) -> (usize, usize)
     ensures order { result.0 ≤ result.1 }
     ensures within { result.1 ≤ length (columns_with_entries block.now.entries) }
     ensures columns { only_places result.0 result.1 block.now ≡ panel block.now first end }

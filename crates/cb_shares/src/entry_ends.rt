@@ -1,5 +1,5 @@
 //! Where shares end that take about the same number of entries.
-ghost use Rattle.std.specs.Prelude.{◌≡◌, ◌≤◌, IfOk};
+ghost use Rattle.std.specs.Prelude.{◌≡◌, ◌<◌, ◌≤◌, length, take, drop, All, IfOk};
 ghost use Rattle.cb_shares.specs.Shares.{AreEnds};
 
 use crate::first_from;
@@ -95,9 +95,15 @@ fn entries_before<S: Semiring>(operands: &[&PanelledMatrix<S>], column: u32) -> 
 }
 
 /// How many entries a block has before a column.
-fn entries_of<S: Semiring>(block: &Block<S>, column: u32) -> usize {
-    let place = first_from(block.column_numbers(), column);
-    if place < block.columns() {
+pub(crate) fn entries_of<S: Semiring>(block: &Block<S>, column: u32) -> usize
+    ensures within { result ≤ length block.now.entries }
+    ensures before { All (λ e. e.column < column) (take result block.now.entries) }
+    ensures after { All (λ e. column ≤ e.column) (drop result block.now.entries) }
+{
+    let _shape = block.shape();
+    let columns = block.column_numbers();
+    let place = first_from(columns, column);
+    if place < columns.len() {
         let (start, _end) = block.nth_range(place);
         start
     } else {

@@ -3,7 +3,8 @@
 //!
 //! A share is a range of columns of the answer. Sums and products place by place, prunes, sums of columns, entries in a region,
 //! functions of entries, complemented masks and updates have in each column only what their operands have there; a product is
-//! made of the same columns of the right factor. So a share takes these columns of its operands, and no entry of another.
+//! made of the same columns of the right factor, and a Kronecker product of columns of the left one. So a share takes these columns
+//! of its operands, and no entry of another. Columns that are listed by their numbers are shared by their places in the list.
 //!
 //! The columns of a product are divided so that all shares take about the same number of products of two values, as in
 //! Nagasaka, Matsuoka, Azad and Buluç, High-performance Sparse Matrix-Matrix Products on Intel KNL and Multicore Architectures
@@ -15,8 +16,10 @@
 mod answers;
 mod columns;
 mod entry_ends;
+mod extracts;
 mod joins;
 mod selections;
+mod sums;
 
 ghost use Rattle.std.specs.Prelude.{◌≡◌, ℕ, ◌<◌, ◌≤◌, length, get_or, slice_index, All, AllPairs, IfOk};
 ghost use Rattle.cb_matrix.specs.Operations.{masked};
@@ -31,9 +34,11 @@ use cb_product::{ColumnIndex, products_of_columns, total_products};
 use cb_semirings::Semiring;
 pub use columns::columns_between;
 pub use entry_ends::{ends_by_entries, even_ends};
+pub use extracts::extract_columns;
 pub use joins::{are_before, join, total};
 pub use selections::{is_selection_by_columns, selection_columns, update_columns};
 use std::alloc::{AllocError, Global};
+pub use sums::{add_share, column_of_sums, share_of_sum, total_of_columns};
 
 /// Returns where each of `count` shares of a product's columns ends. All shares take about the same number of products of
 /// two values, and about `least` or more: if there are too few products, the last shares have no columns. Columns stay

@@ -1,9 +1,10 @@
 //! Some columns of a selection from matrices, and of a matrix that is updated. Where the result has in each column only what
 //! the operands have there, these columns are made of the same columns of the operands.
-ghost use Rattle.std.specs.Prelude.{◌≡◌, [], ◌∷◌, length, IsTrue, None, Some, IfOk, IfErr, IfSome, option_copied};
+ghost use Rattle.std.specs.Prelude.{◌≡◌, ℕ, ◌<◌, ◌≤◌, ◌*◌, ◌/◌, [], ◌∷◌, length, IsTrue, None, Some, IfOk, IfErr, IfSome, option_copied};
 ghost use Rattle.cb_operations.specs.OperationAnswers.{shapes_in};
 ghost use Rattle.cb_operations.specs.SelectionAnswers.{answer_of, operand_count_of, Suits};
 ghost use Rattle.cb_operations.specs.Operands.{lent_in};
+ghost use Rattle.cb_operations.specs.Selected.{kronecker};
 ghost use Rattle.cb_selections.specs.SelectionFaults.{IsFaultOf};
 ghost use Rattle.cb_selections.specs.Updates.{updated};
 ghost use Rattle.cb_shares.specs.Shares.{panel};
@@ -12,8 +13,9 @@ ghost use Rattle.cb_shares.specs.ByColumns.{IsSelectionByColumns};
 use crate::columns::{columns_between, only_between};
 use cb_dcsc::Block;
 use cb_layout::PanelledMatrix;
+use cb_matrix::LIMIT;
 use cb_operations::Selection;
-use cb_selections::{SelectionFault, WriteBack, compute, update};
+use cb_selections::{SelectionFault, WriteBack, compute, kronecker, update};
 use cb_semirings::Semiring;
 use std::alloc::{AllocError, Global};
 
@@ -101,17 +103,51 @@ fn columns_of_two<S: Semiring>(
         let right = columns_between(alloc, b, first, end)?;
         return made_of_two(alloc, selection, left.block(), right.block());
     }
+    if let Selection::Kronecker = selection {
+        return Ok(kronecker_columns(alloc, a, b, first, end)?);
+    }
     let left = a.whole()?;
     let right = b.whole()?;
     let made = made_of_two(alloc, selection, left.block(), right.block())?;
     Ok(only_between(alloc, made, first, end)?)
 }
 
+/// Some columns of a Kronecker product: some of the product of these columns of the first factor that they are made of.
+fn kronecker_columns<S: Semiring>(
+    alloc: Global,
+    a: &PanelledMatrix<S>,
+    b: &PanelledMatrix<S>,
+    first: u32,
+    end: u32,
+) -> Result<Block<S>, AllocError>
+    requires rows { a.now.shape.rows * b.now.shape.rows ≤ LIMIT }
+    requires cols { a.now.shape.cols * b.now.shape.cols ≤ LIMIT }
+    ensures { IfOk result (λ m. m ≡ panel (kronecker S.arithmetic a.now b.now) first end) }
+{
+    let width = b.shape().cols().max(1);
+    let (low, high) = outer_columns(width, first, end);
+    let left = columns_between(alloc, a, low, high)?;
+    let right = b.whole()?;
+    let made = kronecker(alloc, left.block(), right.block())?;
+    only_between(alloc, made, first, end)
+}
+
+/// Which columns of a Kronecker product's first factor make the columns from `first` up to, but not including, `end` of the
+/// product: the first of them, and the one after the last. The second factor has this many columns.
+fn outer_columns(width: u32, first: u32, end: u32) -> (u32, u32)
+    requires { 0 < width }
+    ensures { (j : ℕ) → first ≤ j → j < end → (result.0 ≤ j / width) × (j / width < result.1) }
+{
+    let high = if end == 0 { 0 } else { (end - 1) / width + 1 };
+    (first / width, high)
+}
+
 /// Returns the columns from `first` up to, but not including, `end` of a selection from matrices, in a block of the whole
 /// shape. What can't be made is refused before memory is requested.
 ///
-/// For entries in a region, functions of entries and complemented masks it costs what these columns of the operands cost; for
-/// all others what the whole selection costs.
+/// For entries in a region, functions of entries and complemented masks it costs what these columns of the operands cost; for a
+/// Kronecker product, the product of the columns of the first operand that they are made of; for all others what the whole
+/// selection costs.
 pub fn selection_columns<S: Semiring>(
     alloc: Global,
     selection: Selection,

@@ -24,9 +24,13 @@ pub fn searches(rt: &HostRuntime) -> anyhow::Result<()> {
     let edges: Block<OrAnd> = block(alloc, 4, 4, EDGES)?;
     let lengths: Block<MinPlus> = block(alloc, 4, 4, LENGTHS)?;
     let given: Block<MinPlus> = block(alloc, 4, 1, GIVEN)?;
-    show_numbers(rt, "levels, from 0", &levels(alloc, &edges, 0)?)?;
-    show_numbers(rt, "distances, from 0", &distances(alloc, &lengths, 0)?)?;
-    show_numbers(rt, "parents, from 0", &parents(alloc, &edges, 0)?)?;
+    show_numbers(rt, "levels, from 0", &levels(alloc, &edges, None, 0)?)?;
+    show_numbers(
+        rt,
+        "distances, from 0",
+        &distances(alloc, &lengths, None, 0)?,
+    )?;
+    show_numbers(rt, "parents, from 0", &parents(alloc, &edges, None, 0)?)?;
     show_numbers(
         rt,
         "levels_given, 4 at 1",
@@ -48,12 +52,12 @@ pub fn searches_from_several(rt: &HostRuntime) -> anyhow::Result<()> {
     show_numbers(
         rt,
         "levels_from, 0 and 1",
-        &levels_from(alloc, &edges, &[0, 1])?,
+        &levels_from(alloc, &edges, None, &[0, 1])?,
     )?;
     show_numbers(
         rt,
         "distances_from, 0 and 1",
-        &distances_from(alloc, &lengths, &[0, 1])?,
+        &distances_from(alloc, &lengths, None, &[0, 1])?,
     )?;
     Ok(())
 }

@@ -33,9 +33,9 @@ fn main(rt: HostRuntime) -> anyhow::Result<()> {
 
     let two = cb_serial::run(alloc, Operation::Multiply, &[&roads, &roads])?;
     println!(rt; "from 1 to 4 by two roads: {}", two.get(0, 3))?;
-    let far = cb_searches::distances(alloc, &roads, 0)?;
+    let far = cb_searches::distances(alloc, &roads, None, 0)?;
     println!(rt; "from 1 to 4: {}", far.get(3, 0))?;
-    let steps = cb_searches::levels(alloc, &edges, 0)?;
+    let steps = cb_searches::levels(alloc, &edges, None, 0)?;
     println!(rt; "roads from 1 to 4: {}", steps.get(3, 0))?;
     let islands = cb_graphs::components(alloc, &edges)?;
     println!(rt; "island of 5: {}", islands.get(4, 0))?;

@@ -195,9 +195,9 @@ def _check_pair(a: Any, b: Any) -> None:
 def set_threads(count: int) -> None:
     """Sets how many threads each call may use from now on, the caller's among them: at first 1, at most 256.
 
-    Products, sums, prunes and column sums use them, and so do `select`, `tril`, `triu`, `apply`, `exclude` and `update`
-    of a `Matrix`, as far as each thread gets enough to do. They are started when a call first needs them, and sleep
-    between calls.
+    Products, powers, element-wise sums, prunes and sums of rows, of columns and of all values use them, and so do `kron`,
+    `extract`, `select`, `tril`, `triu`, `apply`, `exclude` and `update` of a `Matrix`, as far as each thread gets enough to
+    do. They are started when a call first needs them, and sleep between calls.
 
     Parameters
     ----------

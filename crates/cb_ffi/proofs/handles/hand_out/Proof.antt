@@ -14,7 +14,7 @@ use denote.Triple.Walked.{Goes-spent_ref}
 use Rattle.cb_ffi.specs.contracts.handles.hand_out as f
 use Rattle.cb_ffi.proofs.handles.hand_out.Statement.{statement}
 use Rattle.cb_ffi.proofs.handles.hand_out.Code as code
-use Rattle.cb_kept.specs.contracts.kept.Kept.{the_row as K}
+use Rattle.cb_kept.specs.contracts.kept_matrices.KeptMatrix.{the_row as K}
 
 abbrev stayed : Stays f.ended.signature.params f.ended.kept
 stayed = (stay_dropped _ no, tt)

@@ -5,8 +5,8 @@ use Rattle.cb_plan_parts.specs.PlanParts.{tagged}
 use Rattle.cb_plan_parts.proofs.LoopGrowth.{grew_all, grew_both}
 use Rattle.cb_plan_operations.specs.VectorPlans.{each_works}
 use Rattle.cb_plan_operations.proofs.Sides.{side_above}
-use Rattle.cb_plan_transfers.specs.Rounds.{row_exchanges, column_exchanges}
-use Rattle.cb_plan_transfers.specs.Pieces.{IsPiecesPlan, piece_cuts, received_sums, sum_cuts, pieces_acts}
+use Rattle.cb_plan_transfers.specs.Rounds.{given_away, row_exchanges, column_exchanges}
+use Rattle.cb_plan_transfers.specs.Pieces.{IsPiecesPlan, received_sums, sum_cuts, pieces_acts}
 use Rattle.cb_plan_transfers.proofs.PiecesMeaning.{is_pieces_plan}
 use Rattle.cb_plan_transfers.proofs.pieces.pieces_plan.Goals as goal
 
@@ -27,7 +27,7 @@ returns-clause-acts c =
     let q = c.args.grid.now.side in
     let shape = c.args.shape in
     let last = c.add_parts-2.new.plan in
-    let first = each_works q (λ _. piece_cuts q shape) in
+    let first = each_works q (λ _. given_away q shape) in
     let rows = row_exchanges q (tagged 0) in
     let adds = received_sums q in
     let second = each_works q (sum_cuts q shape) in

@@ -20,7 +20,7 @@ loop-source-init g c =
     let own = c.requires.own in
     let is_own = λ (i : ℕ). row_value-value s laws c.args.own_rows.now c.args.own_values.now i own.are_values in
     let starts : (i : ℕ) → value_in s.zero c.append.new.self i ≡ row_value s.zero c.args.own_rows.now c.args.own_values.now i = λ i.
-    c.in_ok-append.ensures.sum i
+    c.in_ok-append.ensures i
     ∙ ap (λ t. s.add t (row_value s.zero c.args.own_rows.now c.args.own_values.now i)) (row_value-none s.zero c.clear.new.self.rows c.clear.new.self.values i c.clear.ensures)
     ∙ laws.zero_add _ (is_own i) in
     record {

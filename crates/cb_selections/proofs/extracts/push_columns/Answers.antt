@@ -1,12 +1,19 @@
-use Rattle.std.proofs.Common.{◌≡◌, ◌<◌, length, get_or, refl, sym, ap, subst, arith}
+use Rattle.std.proofs.Common.{◌<◌, length, get_or, refl, sym, ap, subst, arith}
 use Rattle.std.specs.Prelude.{All}
 use Rattle.cb_matrix.specs.Sparse.{Extent, at}
 use Rattle.cb_dcsc.proofs.Lookup.{rows_inside}
 use Rattle.cb_product.proofs.OwnColumn.{own_sparse}
 use Rattle.cb_product.proofs.ProductColumns.{own_column}
 use Rattle.cb_product.proofs.StoredColumn.{column_adds}
-use Rattle.cb_product.proofs.ColumnsMade.{IsMadeTo, made_more, made_all}
+use Rattle.cb_selections.proofs.RangedColumns.{ranged_none, ranged_more, ranged_all}
 use Rattle.cb_selections.proofs.extracts.push_columns.Goals as goal
+
+pub loop-n-init : goal.loop-n-init
+loop-n-init g c =
+    let s = g.S.Semiring.arithmetic in
+    let a = c.args.block.now in
+    let columns = c.args.columns.now in
+    ranged_none s (record { rows = a.shape.rows; cols = length columns }) (λ i j. at s a i (get_or columns j 0)) c.args.first c.args.end c.args.out.now c.requires.out_matrix c.requires.empty
 
 pub push_column-requires-clause-rows : goal.push_column-requires-clause-rows
 push_column-requires-clause-rows g c =
@@ -29,18 +36,15 @@ loop-n-preserved g c =
     let rows = c.column_of.result.0.now in
     let values = c.column_of.result.1.now in
     let e = c.column_of.ensures in
-    let extent : Extent = record { rows = a.shape.rows; cols = length columns } in
     let column = own_sparse s a c.requires.matrix j rows values e.rows e.values in
     let adds = column_adds s n (λ i. at s a i j) rows values column (own_column s a j rows values e.rows e.values) c.loop-n.out c.push_column.new.self c.loop-n.invariant.before c.in_ok-push_column.ensures.ok c.in_ok-push_column.ensures.matrix in
-    made_more s extent (λ i k. at s a i (get_or columns k 0)) c.loop-n.out c.push_column.new.self n (λ i. at s a i j) adds (λ i. refl) c.loop-n.invariant
+    ranged_more s (record { rows = a.shape.rows; cols = length columns }) (λ i k. at s a i (get_or columns k 0)) c.args.first c.args.end c.loop-n.out c.push_column.new.self n (λ i. at s a i j) (omega arith) c.loop-n-test.true adds (λ i. refl) c.loop-n.invariant
 
 pub returns : goal.returns
 returns g c =
     let s = g.S.Semiring.arithmetic in
     let a = c.args.block.now in
     let columns = c.args.columns.now in
-    let extent : Extent = record { rows = a.shape.rows; cols = length columns } in
     let t = c.loop-n-test.false in
     let u = c.loop-n.auto.n-end in
-    let all : c.loop-n.n ≡ length columns = omega arith in
-    made_all s extent (λ i k. at s a i (get_or columns k 0)) g.met.S.Semiring.is_semiring c.loop-n.out (subst (λ m. IsMadeTo s extent (λ i k. at s a i (get_or columns k 0)) m c.loop-n.out) all c.loop-n.invariant)
+    ranged_all s (record { rows = a.shape.rows; cols = length columns }) (λ i k. at s a i (get_or columns k 0)) c.args.first c.args.end g.met.S.Semiring.is_semiring c.loop-n.out c.loop-n.n (omega arith) (omega arith) c.loop-n.invariant

@@ -1,6 +1,5 @@
-use Rattle.std.proofs.Common.{◌≢◌, ◌<◌, length, get_or, refl, sym, subst, ◌∙◌, arith}
+use Rattle.std.proofs.Common.{◌<◌, length, take, get_or, refl, sym, subst, ◌∙◌, arith}
 use Rattle.std.specs.Prelude.{All}
-use Rattle.cb_semirings.specs.Arithmetic.{IsValue}
 use Rattle.cb_matrix.specs.Sparse.{Extent}
 use Rattle.cb_dcsc.specs.Columns.{rows_of, values_of}
 use Rattle.cb_dcsc.proofs.Lookup.{rows_inside}
@@ -36,20 +35,20 @@ push_column-requires-clause-values g c =
     let a = c.args.block.now in
     let cs = c.column_numbers-columns in
     let n = c.loop-n.n in
+    let k = c.in_ok-count.count in
     let rows_are = nth_are a.entries cs.result.now c.nth_column.result.0.now n rows_of cs.ensures.numbers c.nth_column.ensures.rows in
     let values_are = nth_are a.entries cs.result.now c.nth_column.result.1.now n values_of cs.ensures.numbers c.nth_column.ensures.values in
-    let column = listed_column g.S.Semiring.arithmetic a c.requires.matrix c.args.listed.now (get_or cs.result.now n 0) c.nth_column.result.0.now c.nth_column.result.1.now c.keep_listed.new.kept_rows.items c.keep_listed.new.kept_values.items rows_are values_are c.in_ok-keep_listed.ensures in
-    subst (All (IsValue g.S.Semiring.arithmetic)) (sym c.deref-in-loop-n.ensures.value) column.are_values
+    rw c.deref-in-loop-n.ensures.value (listed_column g.S.Semiring.arithmetic a c.requires.matrix c.args.listed.now (get_or cs.result.now n 0) c.nth_column.result.0.now c.nth_column.result.1.now (take k c.keep_listed.new.kept_rows.items) (take k c.keep_listed.new.kept_values.items) rows_are values_are c.in_ok-count.ensures.listed).are_values
 
 pub push_column-requires-clause-not_zero : goal.push_column-requires-clause-not_zero
 push_column-requires-clause-not_zero g c =
     let a = c.args.block.now in
     let cs = c.column_numbers-columns in
     let n = c.loop-n.n in
+    let k = c.in_ok-count.count in
     let rows_are = nth_are a.entries cs.result.now c.nth_column.result.0.now n rows_of cs.ensures.numbers c.nth_column.ensures.rows in
     let values_are = nth_are a.entries cs.result.now c.nth_column.result.1.now n values_of cs.ensures.numbers c.nth_column.ensures.values in
-    let column = listed_column g.S.Semiring.arithmetic a c.requires.matrix c.args.listed.now (get_or cs.result.now n 0) c.nth_column.result.0.now c.nth_column.result.1.now c.keep_listed.new.kept_rows.items c.keep_listed.new.kept_values.items rows_are values_are c.in_ok-keep_listed.ensures in
-    subst (All (λ v. v ≢ g.S.Semiring.arithmetic.zero)) (sym c.deref-in-loop-n.ensures.value) column.not_zero
+    rw c.deref-in-loop-n.ensures.value (listed_column g.S.Semiring.arithmetic a c.requires.matrix c.args.listed.now (get_or cs.result.now n 0) c.nth_column.result.0.now c.nth_column.result.1.now (take k c.keep_listed.new.kept_rows.items) (take k c.keep_listed.new.kept_values.items) rows_are values_are c.in_ok-count.ensures.listed).not_zero
 
 pub loop-n-preserved : goal.loop-n-preserved
 loop-n-preserved g c =
@@ -62,15 +61,15 @@ loop-n-preserved g c =
     let j = get_or cs.result.now n 0 in
     let rows = c.nth_column.result.0.now in
     let values = c.nth_column.result.1.now in
-    let ks = c.keep_listed.new.kept_rows.items in
-    let ws = c.keep_listed.new.kept_values.items in
+    let ks = take c.in_ok-count.count c.keep_listed.new.kept_rows.items in
+    let ws = take c.in_ok-count.count c.keep_listed.new.kept_values.items in
     let extent : Extent = record { rows = length listed; cols = a.shape.cols } in
     let rows_are = nth_are a.entries cs.result.now rows n rows_of cs.ensures.numbers c.nth_column.ensures.rows in
     let values_are = nth_are a.entries cs.result.now values n values_of cs.ensures.numbers c.nth_column.ensures.values in
     let before = before_column s extent (value_for s a is listed) cs.result.now n c.loop-n.out c.loop-n-test.true c.loop-n.invariant in
-    let stored = rw (c.deref.ensures.value, c.deref-in-loop-n.ensures.value) at c.in_ok-push_column.ensures.ok in
-    let kept = c.in_ok-keep_listed.ensures in
+    let kept = c.in_ok-count.ensures.listed in
     let has = listed_has s a is listed j rows values ks ws rows_are values_are kept in
+    let stored = rw (c.deref.ensures.value, c.deref-in-loop-n.ensures.value) at c.in_ok-push_column.ensures.ok in
     let adds = column_adds s j (λ i. value_for s a is listed i j) ks ws (listed_column s a is listed j rows values ks ws rows_are values_are kept) has c.loop-n.out c.push_column.new.self before stored c.in_ok-push_column.ensures.matrix in
     walk_more s extent (value_for s a is listed) cs.result.now cs.ensures.ascending cs.ensures.inside (listed_absent s a is listed cs.result.now cs.ensures.all) c.loop-n.out c.push_column.new.self n (λ i. value_for s a is listed i j) c.loop-n-test.true adds (λ i. refl) c.loop-n.invariant
 

@@ -20,12 +20,6 @@ returns-then-terms-eq1-clause-zeros g c = on_ok_weaker c.make_of_one.result (λ 
 pub returns-then-terms-eq1-clause-column : goal.returns-then-terms-eq1-clause-column
 returns-then-terms-eq1-clause-column g c = c.make_of_one.ensures.column
 
-pub returns-then-dense-clause-zeros : goal.returns-then-dense-clause-zeros
-returns-then-dense-clause-zeros g c = c.make_dense.ensures.zeros
-
-pub returns-then-dense-clause-column : goal.returns-then-dense-clause-column
-returns-then-dense-clause-column g c = c.make_dense.ensures.column
-
 pub returns-then-terms-le-FEW-clause-zeros : goal.returns-then-terms-le-FEW-clause-zeros
 returns-then-terms-le-FEW-clause-zeros g c = on_ok_weaker c.make_joined.result (λ h. rw c.make_joined.ensures.sums c.requires.zeros) c.make_joined.ensures.column
 

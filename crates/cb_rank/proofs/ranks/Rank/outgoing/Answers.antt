@@ -19,10 +19,10 @@ invariant_of-self g c =
     let next = rw (← c.self.view_is) at (sym c.next.ensures.value ∙ c.in-Some-Post.is ∙ ap Some c.in-Some-Post.field-0-is) in
     let few = bool_few c.copy_of-body.result.1 in
     let count = c.from.ensures in
-    posts_on _ c.in-Some-Post.field-0-0 c.in-Some-Post.tag c.in-Some-Post.slot _ c.self.invariant next (omega arith)
+    rw c.copy_of-body.ensures.kept (posts_on _ c.in-Some-Post.field-0-0 c.in-Some-Post.tag c.in-Some-Post.slot _ c.self.invariant next (omega arith))
 
 pub returns-clause-half : goal.returns-clause-half
 returns-clause-half g c =
     let next = rw (← c.self.view_is) at (sym c.next.ensures.value ∙ c.in-Some-Post.is ∙ ap Some c.in-Some-Post.field-0-is) in
     let x : RankView = record { plan = c.self.inside.plan.value; me = c.self.inside.me; program = c.self.inside.program.items; done = c.self.inside.done; slots = c.self.inside.store; refusals = c.self.inside.refusals } in
-    rw (← c.self.view_is, c.from.ensures) (hands_of x c.in-Some-Post.field-0-0 c.in-Some-Post.tag c.in-Some-Post.slot c.copy_of-body.result.0 c.copy_of-body.result.1 next c.copy_of-body.ensures.copy)
+    rw (← c.self.view_is, c.from.ensures, c.copy_of-body.ensures.kept) (hands_of x c.in-Some-Post.field-0-0 c.in-Some-Post.tag c.in-Some-Post.slot c.copy_of-body.result.0 c.copy_of-body.result.1 next c.copy_of-body.ensures.copy)

@@ -1,0 +1,97 @@
+//! A kept matrix with its transpose, which calls use that need it.
+ghost use Rattle.std.specs.Prelude.{◌≡◌, IfErr, IfSome, OnErr, OnOk};
+ghost use Rattle.cb_matrix.specs.Values.{empty_matrix};
+ghost use Rattle.cb_kept.specs.Answers.{IsAnswer};
+ghost use Rattle.cb_kept.specs.Kept.{IsTransposeOf, Keeps, matrix_in, nothing, semiring_of};
+ghost use Rattle.cb_kept.specs.KeptPanels.{IsKeptJoin, join_faults};
+ghost use Rattle.cb_kept.specs.Refusals.{IsMemory};
+
+use crate::faults::Fault;
+use crate::kept::Kept;
+use crate::kept_operations::operate;
+use crate::kept_panels::join_alone;
+use cb_operations::Operation;
+use std::alloc::Global;
+use std::marker::Model;
+
+/// A kept matrix, and its transpose once that is kept too. Contracts see the matrix.
+#[derive(Drop)]
+pub struct KeptMatrix {
+    matrix: Kept,
+    turned: Option<Kept>,
+}
+
+impl Model for KeptMatrix {
+    ghost use Rattle.std.specs.Prelude.{IfSome};
+    ghost use Rattle.cb_kept.specs.declared.kept.Kept.{Kept};
+    ghost use Rattle.cb_kept.specs.Kept.{IsTransposeOf};
+
+    ghost Value = { Kept };
+
+    ghost view = { λ k. k.matrix };
+
+    ghost invariant = { λ k. IfSome k.turned (IsTransposeOf k.matrix) };
+}
+
+impl KeptMatrix {
+    /// This matrix, without its transpose.
+    pub fn new(matrix: Kept) -> KeptMatrix
+        ensures { result ≡ matrix }
+    {
+        KeptMatrix {
+            matrix,
+            turned: None,
+        }
+    }
+
+    /// The matrix.
+    pub fn matrix(&self) -> &Kept
+        ensures { result.now ≡ self.now }
+    {
+        &self.matrix
+    }
+
+    /// Its transpose, if that is kept.
+    pub fn turned(&self) -> Option<&Kept>
+        ensures { IfSome result (λ turned. IsTransposeOf self.now turned.now) }
+    {
+        self.turned.as_ref()
+    }
+
+    /// Keeps the transpose, unless it is kept already. Searches from sources then need no transpose of their own. It takes
+    /// as much memory as the matrix; if that is refused, nothing changes.
+    pub fn keep_transpose(&mut self, alloc: Global) -> Result<(), Fault>
+        ensures same { self.new ≡ self.old }
+        ensures fault { IfErr result IsMemory }
+    {
+        if self.turned.is_none() {
+            // A transpose has no other fault.
+            let Ok(turned) = operate(alloc, Some(Operation::Transpose), &[&self.matrix]) else {
+                return Err(Fault::Memory);
+            };
+            self.turned = Some(turned);
+        }
+        Ok(())
+    }
+
+    /// Frees the lists of both, and leaves a matrix without rows, columns and entries.
+    pub fn clear(&mut self, alloc: Global)
+        ensures { self.new ≡ nothing }
+    {
+        *self = KeptMatrix::new(Kept::nothing(alloc));
+    }
+}
+
+/// Joins two panels of a product, also of one under a mask or outside it: appends the entries of a matrix to those of another,
+/// whose columns are all before its own, and leaves the first of these without entries. At a fault both stay as they were.
+/// No entry is copied. Transposes that are kept beside them go.
+pub fn kept_join(alloc: Global, front: &mut KeptMatrix, back: &mut KeptMatrix) -> Result<(), Fault>
+    ensures answer { IsAnswer (join_faults front.old back.old) (λ _. IsKeptJoin front.old back.old front.new) result }
+    ensures rest { OnOk result (Keeps (semiring_of back.old) (empty_matrix (matrix_in back.old).shape) back.new) }
+    ensures front { OnErr result (Keeps (semiring_of front.old) (matrix_in front.old) front.new) }
+    ensures back { OnErr result (Keeps (semiring_of back.old) (matrix_in back.old) back.new) }
+{
+    front.turned = None;
+    back.turned = None;
+    join_alone(alloc, &mut front.matrix, &mut back.matrix)
+}

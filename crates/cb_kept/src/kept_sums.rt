@@ -1,0 +1,204 @@
+//! Shares of sums over the columns of kept matrices, for threads of a program in another language: what some columns add to a
+//! product with a vector, to the sums of rows or to the sum of all values; and shares that are added up.
+ghost use Rattle.std.specs.Prelude.{◌≡◌, ◌↔◌, IsTrue, length, All, IfOk, IfErr, OnErr};
+ghost use Rattle.cb_semirings.specs.Arithmetic.{IsValue};
+ghost use Rattle.cb_semirings.specs.Names.{arithmetic_of};
+ghost use Rattle.cb_operations.specs.declared.operations.Operation.TheVariants as operation_is;
+ghost use Rattle.cb_operations.specs.OperationAnswers.{operand_count_of};
+ghost use Rattle.cb_operations.specs.Operands.{lent_in};
+ghost use Rattle.cb_reshape.specs.Sums.{matrix_total};
+ghost use Rattle.cb_shares.specs.Shares.{panel};
+ghost use Rattle.cb_shares.specs.Sums.{IsSumOfColumns};
+ghost use Rattle.cb_kept.specs.Answers.{IsAnswer, NoFault};
+ghost use Rattle.cb_kept.specs.Kept.{semiring_of, matrix_in};
+ghost use Rattle.cb_kept.specs.KeptAnswers.{kept_faults};
+ghost use Rattle.cb_kept.specs.KeptSums.{AddsShare, IsColumnOver, IsKeptColumn, IsKeptShare, share_faults, sum_faults};
+
+use crate::faults::Fault;
+use crate::kept::{Keep, Kept, keep_block, of_matrix};
+use crate::kept_calls::{KeptCall, kept_call};
+use crate::kept_checks::check_shapes;
+use cb_layout::PanelledMatrix;
+use cb_matrix::Shape;
+use cb_operations::Operation;
+use cb_semirings::{Semiring, SemiringName, over_semiring};
+use cb_shares::{add_share, column_of_sums, share_of_sum, total_of_columns};
+use std::alloc::Global;
+
+/// A list with a number for each row.
+#[repr(C)]
+#[derive(Clone, Copy)]
+pub struct Sums {
+    pub values: &'static [u64],
+}
+
+/// What some columns of the first matrix add to the result of an operation.
+#[derive(Drop)]
+struct SumShare {
+    operation: Operation,
+    first: u32,
+    end: u32,
+}
+
+impl KeptCall for SumShare {
+    ghost use Rattle.std.specs.Prelude.{◌≡◌};
+    ghost use Rattle.cb_operations.specs.OperationAnswers.{operand_count_of};
+    ghost use Rattle.cb_shares.specs.Sums.{IsListOf, IsSumOfColumns, share_of};
+    ghost use Rattle.cb_kept.specs.CallsOver.{shape_faults};
+
+    type Answer = Sums;
+
+    ghost takes = { λ c n. IsSumOfColumns c.operation × (n ≡ operand_count_of c.operation) };
+
+    ghost faults = { λ c s ms. shape_faults c.operation ms };
+
+    ghost gives = { λ c name s ms sums. IsListOf s (share_of c.operation s ms c.first c.end) sums.values.now };
+
+    fn over<S: Keep>(&self, alloc: Global, operands: &[&PanelledMatrix<S>]) -> Result<Sums, Fault> {
+        check_shapes(self.operation, operands)?;
+        let list = share_of_sum(alloc, self.operation, operands, self.first, self.end)?;
+        Ok(Sums {
+            values: list.leak(),
+        })
+    }
+}
+
+/// Returns what the columns of the first kept matrix from `first` up to, but not including, `end` add to a product with a vector
+/// or to sums of rows, as a list with a number for each row, which belongs to the caller. The faults are those of the whole
+/// operation. Costs what [`cb_shares::share_of_sum`] costs.
+#[tactic(auto, unfolding(crate::specs::KeptAnswers::kept_faults))]
+pub fn kept_share_of_sum(
+    alloc: Global,
+    operation: Operation,
+    operands: &[&Kept],
+    first: u32,
+    end: u32,
+) -> Result<Sums, Fault>
+    requires sum { IsSumOfColumns operation }
+    requires count { length operands.now ≡ operand_count_of operation }
+    ensures { IsAnswer (kept_faults (Some operation) (lent_in operands.now)) (IsKeptShare operation first end (lent_in operands.now)) result }
+{
+    let call = SumShare {
+        operation,
+        first,
+        end,
+    };
+    kept_call(alloc, &call, operands)
+}
+
+/// Returns the sum of all values of a kept matrix in the columns from `first` up to, but not including, `end`. Takes no memory.
+#[tactic(auto, unfolding(crate::specs::Kept::semiring_of, crate::specs::Kept::matrix_in))]
+pub fn kept_total_of_columns(kept: &Kept, first: u32, end: u32) -> u64
+    ensures { result ≡ matrix_total (arithmetic_of (semiring_of kept.now)) (panel (matrix_in kept.now) first end) }
+{
+    of_matrix!(kept, matrix => total_of_columns(matrix, first, end))
+}
+
+/// Whether all numbers of a list are values.
+fn are_values<S: Semiring>(list: &[u64]) -> bool
+    ensures { IsTrue result ↔ All (IsValue S.arithmetic) list.now }
+{
+    list.iter().all(|value| S::is_value(*value))
+}
+
+/// Refuses shares of different lengths, and numbers that aren't values.
+fn check_shares<S: Semiring>(sums: &[u64], more: &[u64]) -> Result<(), Fault>
+    ensures length { IfOk result (λ _. length more.now ≡ length sums.now) }
+    ensures values { IfOk result (λ _. All (IsValue S.arithmetic) sums.now) }
+    ensures more { IfOk result (λ _. All (IsValue S.arithmetic) more.now) }
+    ensures none { IfOk result (λ _. NoFault (share_faults S.arithmetic sums.now more.now)) }
+    ensures fault { IfErr result (share_faults S.arithmetic sums.now more.now) }
+{
+    if more.len() != sums.len() {
+        return Err(Fault::Lengths);
+    }
+    if !are_values::<S>(sums) {
+        return Err(Fault::Value);
+    }
+    if !are_values::<S>(more) {
+        return Err(Fault::Value);
+    }
+    Ok(())
+}
+
+/// Adds a share to another over a semiring.
+fn add_over<S: Semiring>(sums: &mut [u64], more: &[u64]) -> Result<(), Fault>
+    ensures answer { IsAnswer (share_faults S.arithmetic sums.old more.now) (λ _. AddsShare S.arithmetic sums.old more.now sums.new) result }
+    ensures unchanged { OnErr result (sums.new ≡ sums.old) }
+{
+    check_shares::<S>(sums, more)?;
+    add_share::<S>(sums, more);
+    Ok(())
+}
+
+/// The same, over the semiring of a name.
+fn add_named(semiring: SemiringName, sums: &mut [u64], more: &[u64]) -> Result<(), Fault>
+    ensures answer { IsAnswer (share_faults (arithmetic_of semiring) sums.old more.now) (λ _. AddsShare (arithmetic_of semiring) sums.old more.now sums.new) result }
+    ensures unchanged { OnErr result (sums.new ≡ sums.old) }
+{
+    over_semiring!(semiring, add_over::<_>(sums, more))
+}
+
+/// Adds a share to that of the columns before it, over the semiring of a kept matrix: lists of one length, or the sums of all
+/// values in these columns, as lists of a single number. At a fault nothing changes. Costs a few instructions for each number.
+pub fn kept_add_share(like: &Kept, sums: &mut [u64], more: &[u64]) -> Result<(), Fault>
+    ensures answer { IsAnswer (share_faults (arithmetic_of (semiring_of like.now)) sums.old more.now) (λ _. AddsShare (arithmetic_of (semiring_of like.now)) sums.old more.now sums.new) result }
+    ensures unchanged { OnErr result (sums.new ≡ sums.old) }
+{
+    add_named(like.semiring(), sums, more)
+}
+
+/// Refuses a list of another length than a column of a shape, and numbers that aren't values.
+fn check_sums<S: Semiring>(shape: Shape, list: &[u64]) -> Result<(), Fault>
+    ensures length { IfOk result (λ _. length list.now ≡ shape.rows) }
+    ensures values { IfOk result (λ _. All (IsValue S.arithmetic) list.now) }
+    ensures none { IfOk result (λ _. NoFault (sum_faults S.arithmetic shape.rows list.now)) }
+    ensures fault { IfErr result (sum_faults S.arithmetic shape.rows list.now) }
+{
+    if list.len() != shape.rows() as usize {
+        return Err(Fault::Lengths);
+    }
+    if !are_values::<S>(list) {
+        return Err(Fault::Value);
+    }
+    Ok(())
+}
+
+/// The shape of one column with the rows of another shape.
+fn one_column(shape: Shape) -> Shape
+    ensures { result ≡ record { rows = shape.rows; cols = 1 } }
+{
+    Shape::new(shape.rows(), 1).unwrap()
+}
+
+/// The column of a list, kept over a semiring.
+fn column_over<S: Keep>(alloc: Global, shape: Shape, list: &[u64]) -> Result<Kept, Fault>
+    requires { shape.cols ≡ 1 }
+    ensures { IsAnswer (sum_faults S.arithmetic shape.rows list.now) (IsColumnOver S.name S.arithmetic list.now) result }
+{
+    check_sums::<S>(shape, list)?;
+    let block = column_of_sums::<S>(alloc, shape, list)?;
+    Ok(keep_block::<S>(alloc, block))
+}
+
+/// The same, over the semiring of a name.
+fn column_named(
+    alloc: Global,
+    semiring: SemiringName,
+    shape: Shape,
+    list: &[u64],
+) -> Result<Kept, Fault>
+    requires { shape.cols ≡ 1 }
+    ensures { IsAnswer (sum_faults (arithmetic_of semiring) shape.rows list.now) (IsColumnOver semiring (arithmetic_of semiring) list.now) result }
+{
+    over_semiring!(semiring, column_over::<_>(alloc, shape, list))
+}
+
+/// Keeps the column that has the values of a list, one for each row of a kept matrix, over its semiring. Costs a few instructions
+/// for each row.
+pub fn kept_column_of_sums(alloc: Global, like: &Kept, list: &[u64]) -> Result<Kept, Fault>
+    ensures { IsAnswer (sum_faults (arithmetic_of (semiring_of like.now)) (matrix_in like.now).shape.rows list.now) (IsKeptColumn like.now list.now) result }
+{
+    let shape = one_column(like.shape());
+    column_named(alloc, like.semiring(), shape, list)
+}
