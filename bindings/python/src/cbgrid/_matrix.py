@@ -965,6 +965,10 @@ class Matrix:
         A graph that is searched more than once is searched faster, and takes twice the memory. No other thread may use this
         matrix meanwhile.
 
+        Returns
+        -------
+        None
+
         Raises
         ------
         CbgridMemoryError
