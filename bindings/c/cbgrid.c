@@ -163,20 +163,6 @@ int cbgrid_matrix_rows(const struct cbgrid_matrix *a, struct cbgrid_columns *out
     return code;
 }
 
-int cbgrid_matrix_triples(const struct cbgrid_matrix *a, struct cbgrid_triple *out) {
-    struct cbgrid_columns lists;
-    if (!a || (!out && cbgrid_matrix_entries(a))) return CBGRID_NULL_POINTER;
-    int code = cbgrid_matrix_columns(a, &lists);
-    if (code) return code;
-    for (size_t k = 0; k < lists.columns_len; k++) {
-        for (size_t n = lists.starts64[k]; n < lists.starts64[k + 1]; n++) {
-            out[n] = (struct cbgrid_triple){lists.rows[n], lists.columns[k], lists.values[n]};
-        }
-    }
-    cbgrid_free_columns(&lists);
-    return CBGRID_OK;
-}
-
 static struct summary summary_of(const struct cbgrid_matrix *a) {
     struct summary made = {0, 0, 0, 0};
     if (a) cbgrid_kernel_kept_summary((kept){a}, &made);
@@ -205,32 +191,6 @@ int cbgrid_matrix_value(const struct cbgrid_matrix *a, uint32_t row, uint32_t co
     if (row >= shape.nrows || column >= shape.ncols) return CBGRID_PLACE;
     *out = cbgrid_kernel_kept_value((kept){a}, row, column);
     return CBGRID_OK;
-}
-
-int cbgrid_matrix_diagonal(const struct cbgrid_matrix *a, struct cbgrid_matrix **out) {
-    struct owned made = {NULL};
-    if (!a || !out) return CBGRID_NULL_POINTER;
-    return hand(cbgrid_kernel_kept_diagonal((kept){a}, &made), made, out);
-}
-
-int cbgrid_matrix_diagonal_matrix(const struct cbgrid_matrix *a, struct cbgrid_matrix **out) {
-    struct owned made = {NULL};
-    if (!a || !out) return CBGRID_NULL_POINTER;
-    return hand(cbgrid_kernel_kept_diagonal_matrix((kept){a}, &made), made, out);
-}
-
-int cbgrid_matrix_part(const struct cbgrid_matrix *a, uint32_t row, uint32_t row_end, uint32_t column,
-                       uint32_t column_end, struct cbgrid_matrix **out) {
-    struct owned made = {NULL};
-    if (!a || !out) return CBGRID_NULL_POINTER;
-    return hand(cbgrid_kernel_kept_part((kept){a}, row, row_end, column, column_end, &made), made, out);
-}
-
-int cbgrid_matrix_assign(const struct cbgrid_matrix *a, uint32_t row, uint32_t column,
-                         const struct cbgrid_matrix *part, struct cbgrid_matrix **out) {
-    struct owned made = {NULL};
-    if (!a || !part || !out) return CBGRID_NULL_POINTER;
-    return hand(cbgrid_kernel_kept_assign((kept){a}, row, column, (kept){part}, &made), made, out);
 }
 
 /* The numbers of tasks on graphs, as crates/cb_kept has them. */
@@ -343,10 +303,10 @@ void cbgrid_matrix_free(struct cbgrid_matrix *a) {
 }
 
 /*
- * ---- Calls that several threads share. For each the library has three calls: one that does it all, one that parts the columns of
- * the result, and one that makes the columns of a range, which it then puts beside one another. Here they are given to threads.
- * Where the result is a sum over the columns of the first operand, the third one makes a share of the sum of a range of these
- * columns, and the shares are added up.
+ * ---- Calls that several threads share. For each the library parts the columns of the result, makes those of a range, and puts
+ * ranges beside one another. Here they are given to threads; the range of all columns is the whole result. Where the result is a
+ * sum over the columns of the first operand, the library makes a share of the sum of a range of these columns, and the shares are
+ * added up.
  */
 
 /* How many threads a call uses. */
@@ -356,20 +316,55 @@ void cbgrid_threads(uint32_t count) {
     thread_count = count < 1 ? 1 : count < CBGRID_MOST_THREADS ? count : CBGRID_MOST_THREADS;
 }
 
-/* A call: its operands, what else it takes, and the three of the library; the last makes columns, or a share of a sum. */
+/* The exports that make columns; and the numbers of operations and selections, as crates/cb_kept has them. */
+enum family { OPERATION, SELECTION, OUTSIDE, UPDATE, EXTRACT }; /* an operation, where a call names none */
+enum operation { MULTIPLY, MULTIPLY_MASKED, MULTIPLY_VECTOR, TRANSPOSE, ROW_SUMS, COLUMN_SUMS, ADD, TIMES, PRUNE };
+enum selection { SELECT = 0, APPLY = 4, DIAGONAL = 10, DIAGONAL_MATRIX, PART, KRONECKER, ASSIGN, EXCLUDE, POWER };
+
+/* The number of one of several tests, regions or functions, of which the first has the number `first`; or that of none. */
+static uint32_t number_of(uint32_t first, uint32_t count, uint32_t n) {
+    return n < count ? first + n : UINT32_MAX;
+}
+
+/* A call: its operands, and what else it takes; and where the ranges of its columns end, if threads share it. */
 struct call {
+    enum family family;
+    uint32_t number; /* of an operation, or the flags of an update */
+    uint32_t operands; /* how many there have to be, 1 or 2 */
     kept a, b, mask;
-    uint32_t choice; /* a test, a region, a function or flags */
-    uint64_t number;
-    uint32_t row, column;
-    const uint32_t *rows, *columns_by; /* lists of numbers, unless all are meant */
+    uint64_t value;
+    struct choice choice;
+    const uint32_t *rows, *columns; /* lists of numbers, unless all are meant */
     size_t row_count, column_count;
     uint32_t all_rows, all_columns;
-    uint32_t (*whole)(const struct call *it, struct owned *made);
     uint32_t (*ends)(const struct call *it, uint32_t *ends, size_t count);
-    uint32_t (*columns)(const struct call *it, uint32_t first, uint32_t end, struct owned *made);
-    uint32_t (*share)(const struct call *it, uint32_t first, uint32_t end, struct slice64 *made);
 };
+
+/* The number of an operation. A product with one column has one of its own, for vectors. */
+static uint32_t operation_of(const struct call *it) {
+    return it->number == MULTIPLY && cbgrid_matrix_ncols(it->b.at) == 1 ? MULTIPLY_VECTOR : it->number;
+}
+
+/* Makes the columns from `first` up to `end`. An operand that a call doesn't take is never read. */
+static uint32_t make(const struct call *it, uint32_t first, uint32_t end, struct owned *made) {
+    kept a = it->a, b = it->b.at ? it->b : a, mask = it->mask.at ? it->mask : a;
+    switch (it->family) {
+    case OPERATION: return cbgrid_kernel_operation(operation_of(it), it->value, a, b, mask, first, end, made);
+    case SELECTION: return cbgrid_kernel_selection(&it->choice, a, b, first, end, made);
+    case OUTSIDE: return cbgrid_kernel_kept_outside(a, b, mask, first, end, made);
+    case UPDATE: return cbgrid_kernel_kept_update(a, b, it->mask.at != NULL, mask, it->number, first, end, made);
+    default: break;
+    }
+    return cbgrid_kernel_kept_extract(a, it->all_rows, it->rows, it->row_count, it->all_columns, it->columns, it->column_count, first,
+                                      end, made);
+}
+
+/* No matrix has this many columns. */
+#define ALL_COLUMNS UINT32_MAX
+
+static uint32_t make_all(const struct call *it, struct owned *made) {
+    return make(it, 0, ALL_COLUMNS, made);
+}
 
 /* The columns from `first` up to `end` of the result of a call, or the share of a sum over these columns. */
 struct range {
@@ -382,7 +377,7 @@ struct range {
 
 static void make_columns(void *ranges, size_t n) {
     struct range *it = (struct range *)ranges + n;
-    it->code = it->call->columns(it->call, it->first, it->end, &it->made);
+    it->code = make(it->call, it->first, it->end, &it->made);
 }
 
 /* The ranges that have columns, or one without columns. Returns how many. */
@@ -419,13 +414,14 @@ static uint32_t join_ranges(struct range *ranges, size_t count, struct owned *ou
 
 static void make_share(void *ranges, size_t n) {
     struct range *it = (struct range *)ranges + n;
+    kept a = it->call->a, x = it->call->b.at ? it->call->b : a;
     it->share = (struct slice64){&nothing, 0};
-    it->code = it->call->share(it->call, it->first, it->end, &it->share);
+    it->code = cbgrid_kernel_kept_share(operation_of(it->call), a, x, it->first, it->end, &it->share);
 }
 
 static void add_up(void *ranges, size_t n) {
     struct range *it = (struct range *)ranges + n;
-    it->total = cbgrid_kernel_kept_total_share(it->call->a, it->first, it->end);
+    it->total = cbgrid_kernel_kept_total(it->call->a, it->first, it->end);
 }
 
 /* Parts the columns of the first operand into ranges of about as many entries, at least two. Each adds up at least so many values,
@@ -438,7 +434,7 @@ static size_t ranges_of_sum(const struct call *it, uint64_t numbers, uint64_t le
     if (it->b.at && columns) added = (uint64_t)((double)added * (double)cbgrid_matrix_entries(it->b.at) / (double)columns);
     uint64_t most = added / (numbers > least ? numbers : least);
     size_t count = threads < most ? threads : (size_t)most;
-    if (count < 2 || cbgrid_kernel_kept_entry_ends(it->a, it->a, ends, count)) return 0;
+    if (count < 2 || cbgrid_kernel_kept_ends(0, it->a, it->a, ends, count)) return 0;
     size_t used = ranges_of(it, ends, count, ranges);
     return used < 2 ? 0 : used;
 }
@@ -457,16 +453,21 @@ static uint32_t add_ranges(struct range *ranges, size_t count, struct owned *out
     return code;
 }
 
-/* The fewest entries of a sum over columns that are worth a thread. */
-#define LEAST_ADDED 32768u
+/* The fewest entries that are worth a thread. */
+#define LEAST_ENTRIES 32768u
 
 /* A column that is a sum over the columns of the first operand, with a number for each of its rows. */
 static uint32_t by_shares(const struct call *it, size_t threads, struct owned *made) {
     struct range ranges[CBGRID_MOST_THREADS];
-    size_t used = ranges_of_sum(it, cbgrid_matrix_nrows(it->a.at), LEAST_ADDED, threads, ranges);
-    if (!used) return it->whole(it, made);
+    size_t used = ranges_of_sum(it, cbgrid_matrix_nrows(it->a.at), LEAST_ENTRIES, threads, ranges);
+    if (!used) return make_all(it, made);
     share_out(make_share, ranges, used);
     return add_ranges(ranges, used, made);
+}
+
+/* Whether the result is a sum over the columns of the first operand: the sums of rows, and a product with one column. */
+static int is_sum(const struct call *it, uint32_t columns) {
+    return it->family == OPERATION && (it->number == ROW_SUMS || (it->number == MULTIPLY && columns == 1));
 }
 
 /* If the columns can't be parted, one thread does it all: it finds the faults in their order. So it does if they are too few; if
@@ -476,12 +477,19 @@ static uint32_t by_threads(const struct call *it, uint32_t threads, struct owned
     uint32_t ends[CBGRID_MOST_THREADS];
     size_t count = threads < CBGRID_MOST_THREADS ? threads : CBGRID_MOST_THREADS;
     uint32_t columns = cbgrid_matrix_ncols(it->b.at ? it->b.at : it->a.at);
-    if (columns == 1 && it->share) return by_shares(it, count, made);
-    if (count < 2 || columns < 2 || it->ends(it, ends, count)) return it->whole(it, made);
+    if (is_sum(it, columns)) return by_shares(it, count, made);
+    if (count < 2 || columns < 2 || !it->ends || it->ends(it, ends, count)) return make_all(it, made);
     size_t used = ranges_of(it, ends, count, ranges);
-    if (used < 2) return it->whole(it, made);
+    if (used < 2) return make_all(it, made);
     share_out(make_columns, ranges, used);
     return join_ranges(ranges, used, made);
+}
+
+/* Makes the whole result of a call by threads, unless an operand or the place for it is missing. */
+static int shared(struct call it, struct cbgrid_matrix **out) {
+    struct owned made = {NULL};
+    if (!it.a.at || (it.operands > 1 && !it.b.at) || !out) return CBGRID_NULL_POINTER;
+    return hand(by_threads(&it, thread_count, &made), made, out);
 }
 
 /* The ranges of a call's columns have about as many entries of its operands: of three, of the two that have the most. */
@@ -491,149 +499,89 @@ static uint32_t ends_by_entries(const struct call *it, uint32_t *ends, size_t co
     uint64_t in_mask = cbgrid_matrix_entries(mask.at);
     if (in_mask > in_a && in_a <= in_b) a = mask;
     else if (in_mask > in_b) b = mask;
-    return cbgrid_kernel_kept_entry_ends(a, b, ends, count);
-}
-
-static uint32_t sum(const struct call *it, struct owned *made) {
-    return cbgrid_kernel_kept_add(it->a, it->b, made);
-}
-static uint32_t sum_columns(const struct call *it, uint32_t first, uint32_t end, struct owned *made) {
-    return cbgrid_kernel_kept_add_columns(it->a, it->b, first, end, made);
+    return cbgrid_kernel_kept_ends(0, a, b, ends, count);
 }
 
 int cbgrid_matrix_add(const struct cbgrid_matrix *a, const struct cbgrid_matrix *b, struct cbgrid_matrix **out) {
-    struct call it = {.a = {a}, .b = {b}, .whole = sum, .ends = ends_by_entries, .columns = sum_columns};
-    struct owned made = {NULL};
-    if (!a || !b || !out) return CBGRID_NULL_POINTER;
-    return hand(by_threads(&it, thread_count, &made), made, out);
-}
-
-static uint32_t times(const struct call *it, struct owned *made) {
-    return cbgrid_kernel_kept_times(it->a, it->b, made);
-}
-static uint32_t times_columns(const struct call *it, uint32_t first, uint32_t end, struct owned *made) {
-    return cbgrid_kernel_kept_times_columns(it->a, it->b, first, end, made);
+    return shared((struct call){.number = ADD, .operands = 2, .a = {a}, .b = {b}, .ends = ends_by_entries}, out);
 }
 
 int cbgrid_matrix_times(const struct cbgrid_matrix *a, const struct cbgrid_matrix *b, struct cbgrid_matrix **out) {
-    struct call it = {.a = {a}, .b = {b}, .whole = times, .ends = ends_by_entries, .columns = times_columns};
-    struct owned made = {NULL};
-    if (!a || !b || !out) return CBGRID_NULL_POINTER;
-    return hand(by_threads(&it, thread_count, &made), made, out);
-}
-
-static uint32_t turned(const struct call *it, struct owned *made) {
-    return cbgrid_kernel_kept_transpose(it->a, made);
-}
-static uint32_t turned_columns(const struct call *it, uint32_t first, uint32_t end, struct owned *made) {
-    return cbgrid_kernel_kept_transpose_columns(it->a, first, end, made);
+    return shared((struct call){.number = TIMES, .operands = 2, .a = {a}, .b = {b}, .ends = ends_by_entries}, out);
 }
 
 /* The ranges of a transpose have as many rows of the operand. Each thread reads all its entries, so few entries aren't shared. */
 static uint32_t ends_by_rows(const struct call *it, uint32_t *ends, size_t count) {
-    size_t rows = cbgrid_matrix_nrows(it->a.at), used = cbgrid_matrix_entries(it->a.at) / 32768;
+    size_t rows = cbgrid_matrix_nrows(it->a.at), used = cbgrid_matrix_entries(it->a.at) / LEAST_ENTRIES;
     if (used < 2) return 1;
     if (used > count) used = count;
     for (size_t n = 0; n < count; n++) ends[n] = n + 1 < used ? rows / used * (n + 1) : rows;
     return 0;
 }
 
-int cbgrid_matrix_transpose(const struct cbgrid_matrix *a, struct cbgrid_matrix **out) {
-    struct call it = {.a = {a}, .whole = turned, .ends = ends_by_rows, .columns = turned_columns};
-    struct owned made = {NULL};
-    if (!a || !out) return CBGRID_NULL_POINTER;
-    return hand(by_threads(&it, thread_count, &made), made, out);
+static struct call transpose_of(const struct cbgrid_matrix *a) {
+    return (struct call){.number = TRANSPOSE, .a = {a}, .ends = ends_by_rows};
 }
 
-static uint32_t pruned(const struct call *it, struct owned *made) {
-    return cbgrid_kernel_kept_prune(it->a, it->choice, it->number, made);
-}
-static uint32_t pruned_columns(const struct call *it, uint32_t first, uint32_t end, struct owned *made) {
-    return cbgrid_kernel_kept_prune_columns(it->a, it->choice, it->number, first, end, made);
+int cbgrid_matrix_transpose(const struct cbgrid_matrix *a, struct cbgrid_matrix **out) {
+    return shared(transpose_of(a), out);
 }
 
 int cbgrid_matrix_prune(const struct cbgrid_matrix *a, uint32_t test, uint64_t bound, struct cbgrid_matrix **out) {
-    struct call it = {.a = {a}, .choice = test, .number = bound,
-                      .whole = pruned, .ends = ends_by_entries, .columns = pruned_columns};
-    struct owned made = {NULL};
-    if (!a || !out) return CBGRID_NULL_POINTER;
-    return hand(by_threads(&it, thread_count, &made), made, out);
+    return shared((struct call){.number = number_of(PRUNE, 3, test), .value = bound, .a = {a}, .ends = ends_by_entries}, out);
 }
 
-static uint32_t selected(const struct call *it, struct owned *made) {
-    return cbgrid_kernel_kept_select(it->a, it->choice, it->row, it->column, made);
+/* A selection from one matrix, or from two. */
+static struct call selection_of(struct choice choice, const struct cbgrid_matrix *a) {
+    return (struct call){.family = SELECTION, .choice = choice, .a = {a}};
 }
-static uint32_t selected_columns(const struct call *it, uint32_t first, uint32_t end, struct owned *made) {
-    return cbgrid_kernel_kept_select_columns(it->a, it->choice, it->row, it->column, first, end, made);
+static struct call selection_of_two(struct choice choice, const struct cbgrid_matrix *a, const struct cbgrid_matrix *b) {
+    return (struct call){.family = SELECTION, .operands = 2, .choice = choice, .a = {a}, .b = {b}};
 }
 
 int cbgrid_matrix_select(const struct cbgrid_matrix *a, uint32_t region, int64_t diagonal, struct cbgrid_matrix **out) {
-    struct call it = {.a = {a}, .choice = region, .whole = selected, .ends = ends_by_entries, .columns = selected_columns};
-    struct owned made = {NULL};
-    if (!a || !out) return CBGRID_NULL_POINTER;
     /* Diagonal k goes through (0, k) or (-k, 0). No matrix has a place on diagonal CBGRID_LIMIT or beyond. */
     int64_t limit = CBGRID_LIMIT, k = diagonal > limit ? limit : diagonal < -limit ? -limit : diagonal;
-    it.row = k < 0 ? (uint32_t)-k : 0, it.column = k > 0 ? (uint32_t)k : 0;
-    return hand(by_threads(&it, thread_count, &made), made, out);
-}
-
-static uint32_t applied(const struct call *it, struct owned *made) {
-    return cbgrid_kernel_kept_apply(it->a, it->choice, it->number, made);
-}
-static uint32_t applied_columns(const struct call *it, uint32_t first, uint32_t end, struct owned *made) {
-    return cbgrid_kernel_kept_apply_columns(it->a, it->choice, it->number, first, end, made);
+    uint32_t row = k < 0 ? (uint32_t)-k : 0, column = k > 0 ? (uint32_t)k : 0;
+    struct call it = selection_of((struct choice){.number = number_of(SELECT, 4, region), .row = row, .column = column}, a);
+    it.ends = ends_by_entries;
+    return shared(it, out);
 }
 
 int cbgrid_matrix_apply(const struct cbgrid_matrix *a, uint32_t function, uint64_t number, struct cbgrid_matrix **out) {
-    struct call it = {.a = {a}, .choice = function, .number = number,
-                      .whole = applied, .ends = ends_by_entries, .columns = applied_columns};
-    struct owned made = {NULL};
-    if (!a || !out) return CBGRID_NULL_POINTER;
-    return hand(by_threads(&it, thread_count, &made), made, out);
+    struct call it = selection_of((struct choice){.number = number_of(APPLY, 6, function), .value = number}, a);
+    it.ends = ends_by_entries;
+    return shared(it, out);
 }
 
-static uint32_t excluded(const struct call *it, struct owned *made) {
-    return cbgrid_kernel_kept_exclude(it->a, it->b, made);
+int cbgrid_matrix_diagonal(const struct cbgrid_matrix *a, struct cbgrid_matrix **out) {
+    return shared(selection_of((struct choice){.number = DIAGONAL}, a), out);
 }
-static uint32_t excluded_columns(const struct call *it, uint32_t first, uint32_t end, struct owned *made) {
-    return cbgrid_kernel_kept_exclude_columns(it->a, it->b, first, end, made);
+
+int cbgrid_matrix_diagonal_matrix(const struct cbgrid_matrix *a, struct cbgrid_matrix **out) {
+    return shared(selection_of((struct choice){.number = DIAGONAL_MATRIX}, a), out);
+}
+
+int cbgrid_matrix_part(const struct cbgrid_matrix *a, uint32_t row, uint32_t row_end, uint32_t column,
+                       uint32_t column_end, struct cbgrid_matrix **out) {
+    return shared(selection_of((struct choice){PART, row, row_end, column, column_end, 0, 0}, a), out);
+}
+
+int cbgrid_matrix_assign(const struct cbgrid_matrix *a, uint32_t row, uint32_t column,
+                         const struct cbgrid_matrix *part, struct cbgrid_matrix **out) {
+    return shared(selection_of_two((struct choice){.number = ASSIGN, .row = row, .column = column}, a, part), out);
 }
 
 int cbgrid_matrix_exclude(const struct cbgrid_matrix *a, const struct cbgrid_matrix *mask, struct cbgrid_matrix **out) {
-    struct call it = {.a = {a}, .b = {mask}, .whole = excluded, .ends = ends_by_entries, .columns = excluded_columns};
-    struct owned made = {NULL};
-    if (!a || !mask || !out) return CBGRID_NULL_POINTER;
-    return hand(by_threads(&it, thread_count, &made), made, out);
-}
-
-static uint32_t updated(const struct call *it, struct owned *made) {
-    if (!it->mask.at) return cbgrid_kernel_kept_update(it->a, it->b, it->choice, made);
-    return cbgrid_kernel_kept_update_masked(it->a, it->b, it->mask, it->choice, made);
-}
-static uint32_t updated_columns(const struct call *it, uint32_t first, uint32_t end, struct owned *made) {
-    if (!it->mask.at) return cbgrid_kernel_kept_update_columns(it->a, it->b, it->choice, first, end, made);
-    return cbgrid_kernel_kept_update_masked_columns(it->a, it->b, it->mask, it->choice, first, end, made);
+    struct call it = selection_of_two((struct choice){.number = EXCLUDE}, a, mask);
+    it.ends = ends_by_entries;
+    return shared(it, out);
 }
 
 int cbgrid_matrix_update(const struct cbgrid_matrix *a, const struct cbgrid_matrix *b, const struct cbgrid_matrix *mask,
                          uint32_t flags, struct cbgrid_matrix **out) {
-    struct call it = {.a = {a}, .b = {b}, .mask = {mask}, .choice = flags,
-                      .whole = updated, .ends = ends_by_entries, .columns = updated_columns};
-    struct owned made = {NULL};
-    if (!a || !b || !out) return CBGRID_NULL_POINTER;
-    return hand(by_threads(&it, thread_count, &made), made, out);
-}
-
-/* The entries that are worth a thread. */
-#define LEAST_ENTRIES 32768u
-
-static uint32_t extracted(const struct call *it, struct owned *made) {
-    return cbgrid_kernel_kept_extract(it->a, it->all_rows, it->rows, it->row_count, it->all_columns, it->columns_by,
-                                      it->column_count, made);
-}
-static uint32_t extracted_columns(const struct call *it, uint32_t first, uint32_t end, struct owned *made) {
-    return cbgrid_kernel_kept_extract_columns(it->a, it->all_rows, it->rows, it->row_count, it->all_columns, it->columns_by,
-                                              it->column_count, first, end, made);
+    struct call it = {.family = UPDATE, .number = flags, .operands = 2, .a = {a}, .b = {b}, .mask = {mask}, .ends = ends_by_entries};
+    return shared(it, out);
 }
 
 /* The ranges of rows and columns by their numbers have as many numbers of columns. A column has as many entries as the others. */
@@ -657,22 +605,14 @@ int cbgrid_matrix_extract(const struct cbgrid_matrix *a, const uint32_t *rows, s
     if (!a || !out || (row_count && !rows) || (column_count && !columns)) return CBGRID_NULL_POINTER;
     if (!row_count) rows = NOTHING32;
     if (!column_count) columns = NOTHING32;
-    struct call it = {.a = {a}, .rows = rows, .columns_by = columns, .row_count = row_count, .column_count = column_count,
-                      .all_rows = all_rows, .all_columns = all_columns,
-                      .whole = extracted, .ends = ends_by_numbers, .columns = extracted_columns};
+    struct call it = {.family = EXTRACT, .a = {a}, .rows = rows, .columns = columns, .row_count = row_count,
+                      .column_count = column_count, .all_rows = all_rows, .all_columns = all_columns, .ends = ends_by_numbers};
     uint32_t code = by_threads(&it, thread_count, &made);
     if (at && is_of_one(code)) {
         *at = cbgrid_kernel_first_outside(rows, row_count, cbgrid_matrix_nrows(a));
         if (*at == row_count) *at += cbgrid_kernel_first_outside(columns, column_count, cbgrid_matrix_ncols(a));
     }
     return hand(code, made, out);
-}
-
-static uint32_t kronecker(const struct call *it, struct owned *made) {
-    return cbgrid_kernel_kept_kronecker(it->a, it->b, made);
-}
-static uint32_t kronecker_columns(const struct call *it, uint32_t first, uint32_t end, struct owned *made) {
-    return cbgrid_kernel_kept_kronecker_columns(it->a, it->b, first, end, made);
 }
 
 /* The ranges of a Kronecker product are made of as many columns of a. */
@@ -688,10 +628,9 @@ static uint32_t ends_by_outer(const struct call *it, uint32_t *ends, size_t coun
 }
 
 int cbgrid_matrix_kron(const struct cbgrid_matrix *a, const struct cbgrid_matrix *b, struct cbgrid_matrix **out) {
-    struct call it = {.a = {a}, .b = {b}, .whole = kronecker, .ends = ends_by_outer, .columns = kronecker_columns};
-    struct owned made = {NULL};
-    if (!a || !b || !out) return CBGRID_NULL_POINTER;
-    return hand(by_threads(&it, thread_count, &made), made, out);
+    struct call it = selection_of_two((struct choice){.number = KRONECKER}, a, b);
+    it.ends = ends_by_outer;
+    return shared(it, out);
 }
 
 /* A sum takes less time than a thread takes to wake, unless there are many. */
@@ -703,32 +642,12 @@ static uint32_t ends_of_sums(const struct call *it, uint32_t *ends, size_t count
     return ends_by_entries(it, ends, count < most ? count : most);
 }
 
-static uint32_t column_sums(const struct call *it, struct owned *made) {
-    return cbgrid_kernel_kept_column_sums(it->a, made);
-}
-static uint32_t column_sums_columns(const struct call *it, uint32_t first, uint32_t end, struct owned *made) {
-    return cbgrid_kernel_kept_column_sums_columns(it->a, first, end, made);
-}
-
 int cbgrid_matrix_column_sums(const struct cbgrid_matrix *a, struct cbgrid_matrix **out) {
-    struct call it = {.a = {a}, .whole = column_sums, .ends = ends_of_sums, .columns = column_sums_columns};
-    struct owned made = {NULL};
-    if (!a || !out) return CBGRID_NULL_POINTER;
-    return hand(by_threads(&it, thread_count, &made), made, out);
-}
-
-static uint32_t row_sums(const struct call *it, struct owned *made) {
-    return cbgrid_kernel_kept_row_sums(it->a, made);
-}
-static uint32_t row_sums_share(const struct call *it, uint32_t first, uint32_t end, struct slice64 *made) {
-    return cbgrid_kernel_kept_row_sums_share(it->a, first, end, made);
+    return shared((struct call){.number = COLUMN_SUMS, .a = {a}, .ends = ends_of_sums}, out);
 }
 
 int cbgrid_matrix_row_sums(const struct cbgrid_matrix *a, struct cbgrid_matrix **out) {
-    struct call it = {.a = {a}, .whole = row_sums, .share = row_sums_share};
-    struct owned made = {NULL};
-    if (!a || !out) return CBGRID_NULL_POINTER;
-    return hand(by_shares(&it, thread_count, &made), made, out);
+    return shared((struct call){.number = ROW_SUMS, .a = {a}}, out);
 }
 
 int cbgrid_matrix_reduce_all(const struct cbgrid_matrix *a, uint64_t *out) {
@@ -736,7 +655,7 @@ int cbgrid_matrix_reduce_all(const struct cbgrid_matrix *a, uint64_t *out) {
     struct range ranges[CBGRID_MOST_THREADS];
     if (!a || !out) return CBGRID_NULL_POINTER;
     size_t used = ranges_of_sum(&it, 1, LEAST_SUMMED, thread_count, ranges);
-    if (!used) return *out = cbgrid_kernel_kept_total(it.a), CBGRID_OK;
+    if (!used) return *out = cbgrid_kernel_kept_total(it.a, 0, ALL_COLUMNS), CBGRID_OK;
     share_out(add_up, ranges, used);
     uint32_t code = CBGRID_OK;
     for (size_t n = 1; n < used && !code; n++) {
@@ -748,44 +667,14 @@ int cbgrid_matrix_reduce_all(const struct cbgrid_matrix *a, uint64_t *out) {
 
 /* ---- Products: the ranges of their columns take about as many products of two values. */
 static uint32_t ends_by_products(const struct call *it, uint32_t *ends, size_t count) {
-    return cbgrid_kernel_kept_ends(it->a, it->b, ends, count);
-}
-
-/* A product with one column has a call of its own, for vectors. */
-static uint32_t product(const struct call *it, struct owned *made) {
-    if (cbgrid_matrix_ncols(it->b.at) == 1) return cbgrid_kernel_kept_vector(it->a, it->b, made);
-    return cbgrid_kernel_kept_multiply(it->a, it->b, made);
-}
-static uint32_t product_columns(const struct call *it, uint32_t first, uint32_t end, struct owned *made) {
-    return cbgrid_kernel_kept_panel(it->a, it->b, first, end, made);
-}
-
-/* A product with one column is a sum over the columns of the first factor. */
-static uint32_t product_share(const struct call *it, uint32_t first, uint32_t end, struct slice64 *made) {
-    return cbgrid_kernel_kept_vector_share(it->a, it->b, first, end, made);
-}
-
-static uint32_t product_under(const struct call *it, struct owned *made) {
-    return cbgrid_kernel_kept_multiply_masked(it->a, it->b, it->mask, made);
-}
-static uint32_t product_under_columns(const struct call *it, uint32_t first, uint32_t end, struct owned *made) {
-    return cbgrid_kernel_kept_masked_panel(it->a, it->b, it->mask, first, end, made);
-}
-
-static uint32_t product_outside(const struct call *it, struct owned *made) {
-    return cbgrid_kernel_kept_multiply_outside(it->a, it->b, it->mask, made);
-}
-static uint32_t product_outside_columns(const struct call *it, uint32_t first, uint32_t end, struct owned *made) {
-    return cbgrid_kernel_kept_outside_panel(it->a, it->b, it->mask, first, end, made);
+    return cbgrid_kernel_kept_ends(1, it->a, it->b, ends, count);
 }
 
 /* The product that is asked for, of factors that aren't transposed. */
 static struct call product_of(const struct cbgrid_matrix *a, const struct cbgrid_matrix *b, const struct cbgrid_how *how) {
-    struct call it = {.a = {a}, .b = {b}, .mask = {how->mask}, .ends = ends_by_products};
-    if (!how->mask) it.whole = product, it.columns = product_columns, it.share = product_share;
-    else if (!how->complement) it.whole = product_under, it.columns = product_under_columns;
-    else it.whole = product_outside, it.columns = product_outside_columns;
-    return it;
+    enum family family = how->mask && how->complement ? OUTSIDE : OPERATION;
+    return (struct call){.family = family, .number = how->mask ? MULTIPLY_MASKED : MULTIPLY, .a = {a}, .b = {b}, .mask = {how->mask},
+                         .ends = ends_by_products};
 }
 
 /* The first fault of a product of which a factor is to be transposed: no memory is taken for that if there is one. A mask that
@@ -806,8 +695,9 @@ static uint32_t of_transposed(struct call it, const struct cbgrid_how *how, uint
     if (!how->mask && threads < 2) return cbgrid_kernel_kept_multiply_turned(it.a, turn_a, it.b, turn_b, made);
     struct owned a = {NULL}, b = {NULL};
     uint32_t code = fault_of(&it, how);
-    if (!code && turn_a) code = cbgrid_kernel_kept_transpose(it.a, &a);
-    if (!code && turn_b) code = cbgrid_kernel_kept_transpose(it.b, &b);
+    struct call turned_a = transpose_of(it.a.at), turned_b = transpose_of(it.b.at);
+    if (!code && turn_a) code = make_all(&turned_a, &a);
+    if (!code && turn_b) code = make_all(&turned_b, &b);
     if (a.at) it.a.at = a.at;
     if (b.at) it.b.at = b.at;
     if (!code) code = by_threads(&it, threads, made);
@@ -831,7 +721,7 @@ int cbgrid_matrix_multiply(const struct cbgrid_matrix *a, const struct cbgrid_ma
 /* A power by threads: they share each product. These are made in the order that the library makes them in: the product so far, times
  * the matrix. */
 static uint32_t power_by_threads(kept a, uint32_t factors, uint32_t threads, struct owned *made) {
-    struct call it = {.a = a, .b = a, .whole = product, .ends = ends_by_products, .columns = product_columns};
+    struct call it = {.number = MULTIPLY, .a = a, .b = a, .ends = ends_by_products};
     uint32_t code = by_threads(&it, threads, made);
     for (uint32_t n = 2; n < factors && !code; n++) {
         struct owned before = *made;
@@ -844,11 +734,47 @@ static uint32_t power_by_threads(kept a, uint32_t factors, uint32_t threads, str
 
 int cbgrid_matrix_power(const struct cbgrid_matrix *a, uint32_t factors, struct cbgrid_matrix **out) {
     struct owned made = {NULL};
-    if (!a || !out) return CBGRID_NULL_POINTER;
     uint32_t threads = thread_count;
     int is_alone = threads < 2 || factors < 2 || cbgrid_matrix_nrows(a) != cbgrid_matrix_ncols(a);
-    if (is_alone) return hand(cbgrid_kernel_kept_power((kept){a}, factors, &made), made, out);
+    if (!a || !out || is_alone) return shared(selection_of((struct choice){.number = POWER, .factors = factors}, a), out);
     return hand(power_by_threads((kept){a}, factors, threads, &made), made, out);
+}
+
+/* ---- Triples: threads write those of as many entries. */
+struct entries {
+    const struct cbgrid_columns *lists;
+    size_t first, end;
+    struct cbgrid_triple *out;
+};
+
+static void write_triples(void *shares, size_t n) {
+    const struct entries *it = (const struct entries *)shares + n;
+    const struct cbgrid_columns *lists = it->lists;
+    size_t k = 0, end = lists->columns_len;
+    while (end - k > 1) {
+        size_t middle = k + (end - k) / 2;
+        if (lists->starts64[middle] <= it->first) k = middle;
+        else end = middle;
+    }
+    for (size_t at = it->first; at < it->end; k++) {
+        size_t stop = lists->starts64[k + 1] < it->end ? lists->starts64[k + 1] : it->end;
+        for (; at < stop; at++) it->out[at] = (struct cbgrid_triple){lists->rows[at], lists->columns[k], lists->values[at]};
+    }
+}
+
+int cbgrid_matrix_triples(const struct cbgrid_matrix *a, struct cbgrid_triple *out) {
+    struct cbgrid_columns lists;
+    struct entries shares[CBGRID_MOST_THREADS];
+    if (!a || (!out && cbgrid_matrix_entries(a))) return CBGRID_NULL_POINTER;
+    int code = cbgrid_matrix_columns(a, &lists);
+    if (code) return code;
+    size_t len = lists.rows_len, used = len / LEAST_ENTRIES, threads = thread_count;
+    if (used > threads) used = threads;
+    if (!used) used = 1;
+    for (size_t n = 0; n < used; n++) shares[n] = (struct entries){&lists, len / used * n, n + 1 < used ? len / used * (n + 1) : len, out};
+    share_out(write_triples, shares, used);
+    cbgrid_free_columns(&lists);
+    return CBGRID_OK;
 }
 
 const char *cbgrid_version(void) {

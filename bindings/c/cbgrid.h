@@ -77,7 +77,7 @@ extern "C" {
 
 /* Sets how many threads each call may use from now on, the caller's among them: at first 1, at most CBGRID_MOST_THREADS; 0 is
  * 1. Products, powers, Kronecker products, sums and products element-wise, prunes, sums of rows, of columns and of all values,
- * transposes, cbgrid_matrix_select, _apply, _extract, _exclude and _update use them, as far as each thread gets enough to do; the
+ * transposes, cbgrid_matrix_select, _apply, _extract, _exclude, _update and _triples use them, as far as each thread gets enough to do; the
  * others use the caller's. The library starts threads when it first needs them, and they sleep between calls. */
 void cbgrid_threads(uint32_t count);
 
@@ -134,7 +134,7 @@ enum cbgrid_test {
 enum cbgrid_region {
     CBGRID_LOWER = 0,        /* on diagonal k and below it: the lower triangle */
     CBGRID_UPPER = 1,        /* on diagonal k and above it: the upper triangle */
-    CBGRID_ON_DIAGONAL = 2,  /* on diagonal k */
+    CBGRID_DIAGONAL = 2,     /* on diagonal k */
     CBGRID_OFF_DIAGONAL = 3  /* everywhere else */
 };
 

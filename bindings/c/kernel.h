@@ -83,6 +83,12 @@ struct summary {
     uint32_t nrows, ncols, semiring;
     uint64_t entries;
 };
+/* A selection by its number, and what it takes. */
+struct choice {
+    uint32_t number, row, row_end, column, column_end, factors;
+    uint64_t value;
+};
+_Static_assert(sizeof(struct choice) == 32 && offsetof(struct choice, value) == 24, "choice");
 _Static_assert(sizeof(struct owned) == 8 && sizeof(struct borrowed) == 8, "kept matrices");
 _Static_assert(sizeof(struct summary) == 24 && offsetof(struct summary, entries) == 16, "summary");
 _Static_assert(sizeof(struct cbgrid_triple) == 16 && offsetof(struct cbgrid_triple, value) == 8, "triple");

@@ -1,7 +1,7 @@
 /*
  * Tests of what products by several threads are made of, by worked examples: where ranges of a product's columns end, the
  * panel of a range, without a mask, under one and outside one, and two panels joined; the codes of each, in the order of the
- * checks; and each call on a matrix of several panels.
+ * checks; each call on a matrix of several panels; and each call in ranges of its columns.
  */
 #include "../kernel.h"
 #include "check.h"
@@ -48,6 +48,14 @@ static struct cbgrid_matrix *kept_of(uint32_t semiring, const struct example *it
     return made;
 }
 
+/* The columns of a range of a product, and of one under a mask. Numbers of operations are those of crates/cb_kept. */
+static uint32_t panel_of(kept a, kept b, uint32_t first, uint32_t end, struct owned *made) {
+    return cbgrid_kernel_operation(0, 0, a, b, a, first, end, made);
+}
+static uint32_t masked_panel_of(kept a, kept b, kept mask, uint32_t first, uint32_t end, struct owned *made) {
+    return cbgrid_kernel_operation(1, 0, a, b, mask, first, end, made);
+}
+
 static void test_panels(void) {
     static const struct {
         const struct example *left, *right;
@@ -66,7 +74,7 @@ static void test_panels(void) {
     for (size_t n = 0; n < sizeof rows / sizeof *rows; n++) {
         struct cbgrid_matrix *a = kept_of(0, rows[n].left), *b = kept_of(0, rows[n].right), *want = kept_of(0, rows[n].want);
         struct owned made = {NULL};
-        EXPECT(cbgrid_kernel_kept_panel((kept){a}, (kept){b}, rows[n].first, rows[n].end, &made) == CBGRID_OK);
+        EXPECT(panel_of((kept){a}, (kept){b}, rows[n].first, rows[n].end, &made) == CBGRID_OK);
         EXPECT(is_same(made.at, want));
         cbgrid_matrix_free(made.at);
         cbgrid_matrix_free(a);
@@ -97,8 +105,8 @@ static void test_masked_panels(void) {
         struct cbgrid_matrix *want_under = kept_of(0, rows[n].under), *want_rest = kept_of(0, rows[n].rest);
         uint32_t first = rows[n].first, end = rows[n].end;
         struct owned made_under = {NULL}, made_rest = {NULL};
-        EXPECT(cbgrid_kernel_kept_masked_panel((kept){a}, (kept){b}, (kept){mask}, first, end, &made_under) == CBGRID_OK);
-        EXPECT(cbgrid_kernel_kept_outside_panel((kept){a}, (kept){b}, (kept){mask}, first, end, &made_rest) == CBGRID_OK);
+        EXPECT(masked_panel_of((kept){a}, (kept){b}, (kept){mask}, first, end, &made_under) == CBGRID_OK);
+        EXPECT(cbgrid_kernel_kept_outside((kept){a}, (kept){b}, (kept){mask}, first, end, &made_rest) == CBGRID_OK);
         EXPECT(is_same(made_under.at, want_under) && is_same(made_rest.at, want_rest));
         struct cbgrid_matrix *all[] = {a, b, mask, want_under, want_rest, made_under.at, made_rest.at};
         for (size_t k = 0; k < sizeof all / sizeof *all; k++) cbgrid_matrix_free(all[k]);
@@ -159,7 +167,7 @@ static void test_ends(void) {
     for (size_t n = 0; n < sizeof rows / sizeof *rows; n++) {
         struct cbgrid_matrix *a = kept_of(0, rows[n].left), *b = kept_of(0, rows[n].right);
         uint32_t ends[4] = {77, 77, 77, 77};
-        EXPECT(cbgrid_kernel_kept_ends((kept){a}, (kept){b}, ends, rows[n].count) == CBGRID_OK);
+        EXPECT(cbgrid_kernel_kept_ends(1, (kept){a}, (kept){b}, ends, rows[n].count) == CBGRID_OK);
         for (size_t k = 0; k < 4; k++) EXPECT(ends[k] == (k < rows[n].count ? rows[n].right->ncols : 77));
         cbgrid_matrix_free(a);
         cbgrid_matrix_free(b);
@@ -175,8 +183,8 @@ static void test_codes_of_factors(void) {
         struct owned made = {NULL};
         uint32_t ends[2] = {77, 77};
         left = 0;
-        EXPECT(cbgrid_kernel_kept_ends((kept){a}, (kept){b}, ends, 2) == codes[semiring]);
-        EXPECT(cbgrid_kernel_kept_panel((kept){a}, (kept){b}, 0, 1, &made) == codes[semiring]);
+        EXPECT(cbgrid_kernel_kept_ends(1, (kept){a}, (kept){b}, ends, 2) == codes[semiring]);
+        EXPECT(panel_of((kept){a}, (kept){b}, 0, 1, &made) == codes[semiring]);
         EXPECT(left == 0 && ends[0] == 77 && ends[1] == 77 && !made.at);
         left = -1;
         cbgrid_matrix_free(a);
@@ -201,8 +209,8 @@ static void test_codes_of_masked_factors(void) {
         struct cbgrid_matrix *mask = kept_of(rows[n].semiring, rows[n].mask);
         struct owned made = {NULL};
         left = 0;
-        EXPECT(cbgrid_kernel_kept_masked_panel((kept){a}, (kept){b}, (kept){mask}, 0, 1, &made) == rows[n].code);
-        EXPECT(cbgrid_kernel_kept_outside_panel((kept){a}, (kept){b}, (kept){mask}, 0, 1, &made) == rows[n].code);
+        EXPECT(masked_panel_of((kept){a}, (kept){b}, (kept){mask}, 0, 1, &made) == rows[n].code);
+        EXPECT(cbgrid_kernel_kept_outside((kept){a}, (kept){b}, (kept){mask}, 0, 1, &made) == rows[n].code);
         EXPECT(left == 0 && !made.at);
         left = -1;
         cbgrid_matrix_free(a);
@@ -332,6 +340,103 @@ static void test_graphs_in_panels(void) {
     EXPECT(live == 0);
 }
 
+/* ---- Each call whose result is a matrix, in ranges of its columns: all of them are the whole, and the parts are joined to it. */
+
+/* The numbers of operations and of selections, and how many other calls there are. */
+#define OPERATIONS 11u
+#define SELECTIONS 17u
+#define OTHERS 5u
+
+/* What calls are made of: a square matrix, a mask of its shape, a column, and a matrix that is smaller. */
+struct operands {
+    kept square, mask, column, small;
+};
+
+/* Makes columns of the result of a call by its number. */
+static uint32_t columns_of(const struct operands *of, uint32_t n, uint32_t first, uint32_t end, struct owned *made) {
+    static const uint32_t rows[] = {1, 0, 1, 5}, columns[] = {4, 0, 4};
+    kept a = of->square;
+    struct choice choice = {n - OPERATIONS, 1, 3, 1, 4, 3, 2};
+    if (n < OPERATIONS) return cbgrid_kernel_operation(n, 2, a, n == 2 ? of->column : a, of->mask, first, end, made);
+    if (n < OPERATIONS + SELECTIONS) {
+        kept b = choice.number == 13 || choice.number == 14 ? of->small : of->mask;
+        return cbgrid_kernel_selection(&choice, choice.number == 11 ? of->column : a, b, first, end, made);
+    }
+    switch (n - OPERATIONS - SELECTIONS) {
+    case 0: return cbgrid_kernel_kept_outside(a, a, of->mask, first, end, made);
+    case 1: return cbgrid_kernel_kept_update(a, of->mask, 0, a, CBGRID_ACCUMULATE, first, end, made);
+    case 2: return cbgrid_kernel_kept_update(a, of->mask, 1, of->mask, CBGRID_REPLACE | CBGRID_COMPLEMENT, first, end, made);
+    case 3: return cbgrid_kernel_kept_extract(a, 0, rows, 4, 0, columns, 3, first, end, made);
+    default: return cbgrid_kernel_kept_extract(a, 0, rows, 4, 1, columns, 0, first, end, made);
+    }
+}
+
+/* The columns before one, and those from it on, are joined to the whole. No columns have no entries. */
+static void expect_parts(const struct operands *of, uint32_t n, uint32_t at, const struct cbgrid_matrix *want) {
+    struct owned front = {NULL}, back = {NULL}, made = {NULL}, none = {NULL};
+    EXPECT(columns_of(of, n, 0, at, &front) == CBGRID_OK && columns_of(of, n, at, UINT32_MAX, &back) == CBGRID_OK);
+    EXPECT(columns_of(of, n, at, at, &none) == CBGRID_OK && cbgrid_matrix_entries(none.at) == 0);
+    EXPECT(cbgrid_matrix_nrows(none.at) == cbgrid_matrix_nrows(want) && cbgrid_matrix_ncols(none.at) == cbgrid_matrix_ncols(want));
+    EXPECT(cbgrid_kernel_kept_join(front, back, &made) == CBGRID_OK);
+    free(back.at);
+    EXPECT(is_same(made.at, want));
+    cbgrid_matrix_free(made.at);
+    cbgrid_matrix_free(none.at);
+}
+
+/* Each allocation of a range is refused in turn, and nothing is lost. */
+static void expect_refusals(const struct operands *of, uint32_t n, uint32_t first, uint32_t end) {
+    long before = live;
+    uint32_t code = CBGRID_MEMORY;
+    for (long refused = 0; code == CBGRID_MEMORY && refused < 1000; refused++) {
+        struct owned made = {NULL};
+        left = refused;
+        code = columns_of(of, n, first, end, &made);
+        left = -1;
+        EXPECT(code == CBGRID_OK || (code == CBGRID_MEMORY && !made.at && live == before));
+        cbgrid_matrix_free(made.at);
+    }
+    EXPECT(code == CBGRID_OK && live == before);
+}
+
+static void test_ranges(void) {
+    struct cbgrid_matrix *all[] = {
+        random_kept(0, 6, 6, 2), random_kept(0, 6, 6, 2), random_kept(0, 6, 1, 2), random_kept(0, 3, 2, 2),
+    };
+    struct operands of = {{all[0]}, {all[1]}, {all[2]}, {all[3]}};
+    for (uint32_t n = 0; n < OPERATIONS + SELECTIONS + OTHERS; n++) {
+        struct owned want = {NULL}, same = {NULL};
+        EXPECT(columns_of(&of, n, 0, UINT32_MAX, &want) == CBGRID_OK);
+        uint32_t columns = cbgrid_matrix_ncols(want.at);
+        EXPECT(columns_of(&of, n, 0, columns, &same) == CBGRID_OK && is_same(same.at, want.at));
+        cbgrid_matrix_free(same.at);
+        for (uint32_t at = 0; at <= columns; at++) expect_parts(&of, n, at, want.at);
+        expect_refusals(&of, n, 0, UINT32_MAX);
+        expect_refusals(&of, n, 1, columns);
+        cbgrid_matrix_free(want.at);
+    }
+    for (size_t k = 0; k < sizeof all / sizeof *all; k++) cbgrid_matrix_free(all[k]);
+    EXPECT(live == 0);
+}
+
+/* No operation, selection or sum has another number, and no power has no factors. No memory is taken. */
+static void test_other_numbers(void) {
+    struct cbgrid_matrix *a = kept_of(0, &whole);
+    struct owned made = {NULL};
+    struct slice64 sums = {NULL, 0};
+    struct choice unknown = {.number = SELECTIONS}, power = {.number = SELECTIONS - 1};
+    left = 0;
+    EXPECT(cbgrid_kernel_operation(OPERATIONS, 0, (kept){a}, (kept){a}, (kept){a}, 0, 1, &made) == CBGRID_TEST);
+    EXPECT(cbgrid_kernel_operation(UINT32_MAX, 0, (kept){a}, (kept){a}, (kept){a}, 0, UINT32_MAX, &made) == CBGRID_TEST);
+    EXPECT(cbgrid_kernel_selection(&unknown, (kept){a}, (kept){a}, 0, 1, &made) == CBGRID_TEST);
+    EXPECT(cbgrid_kernel_selection(&power, (kept){a}, (kept){a}, 0, 1, &made) == CBGRID_TEST);
+    EXPECT(cbgrid_kernel_kept_share(0, (kept){a}, (kept){a}, 0, 1, &sums) == CBGRID_TEST);
+    EXPECT(left == 0 && !made.at && !sums.at);
+    left = -1;
+    cbgrid_matrix_free(a);
+    EXPECT(live == 0);
+}
+
 int main(void) {
     test_panels();
     test_masked_panels();
@@ -342,5 +447,7 @@ int main(void) {
     test_codes_of_masked_factors();
     test_calls_on_panels();
     test_graphs_in_panels();
+    test_ranges();
+    test_other_numbers();
     return report();
 }

@@ -33,7 +33,7 @@ static int is_in(const struct selection *job, uint32_t i, uint32_t j) {
     switch (job->number) {
         case CBGRID_LOWER: return k <= job->diagonal;
         case CBGRID_UPPER: return k >= job->diagonal;
-        case CBGRID_ON_DIAGONAL: return k == job->diagonal;
+        case CBGRID_DIAGONAL: return k == job->diagonal;
         default: return k != job->diagonal;
     }
 }

@@ -80,6 +80,9 @@ static void multiply_by_threads(int places, const struct operands *of) {
 }
 
 /* ---- Calls that use the threads of cbgrid_threads. */
+/* The entries of an operand are at most so many. */
+#define MOST_ENTRIES 270000u
+
 static int product_of(const struct operands *of, struct cbgrid_matrix **out) {
     return cbgrid_matrix_multiply(of->a, of->b, NULL, out);
 }
@@ -100,6 +103,15 @@ static int total_of(const struct operands *of, struct cbgrid_matrix **out) {
     struct cbgrid_triple total = {0, 0, 0};
     int code = cbgrid_matrix_reduce_all(of->a, &total.value);
     return code ? code : cbgrid_matrix_of_triples(cbgrid_matrix_semiring(of->a), 1, 1, &total, 1, NULL, out);
+}
+/* The matrix of the triples. */
+static int triples_of(const struct operands *of, struct cbgrid_matrix **out) {
+    const struct cbgrid_matrix *a = of->a;
+    static struct cbgrid_triple triples[MOST_ENTRIES];
+    int code = cbgrid_matrix_triples(a, triples);
+    if (code) return code;
+    uint32_t rows = cbgrid_matrix_nrows(a), columns = cbgrid_matrix_ncols(a);
+    return cbgrid_matrix_of_triples(cbgrid_matrix_semiring(a), rows, columns, triples, cbgrid_matrix_entries(a), NULL, out);
 }
 static int turned_of(const struct operands *of, struct cbgrid_matrix **out) { return cbgrid_matrix_transpose(of->a, out); }
 static int upper_of(const struct operands *of, struct cbgrid_matrix **out) {
@@ -168,12 +180,12 @@ static int power_of(const struct operands *of, struct cbgrid_matrix **out) {
 
 enum {
     PRODUCT, SUM, TIMES, PRUNED, COLUMN_SUMS, ROW_SUMS, VECTOR, TOTAL, TURNED, UPPER, APPLIED, EXCLUDED, UPDATED, UPDATED_UNDER,
-    BOTH, TURNED_ROWS, COLUMNS, ROWS, ALL, KRONECKER, POWER, CALLS
+    BOTH, TURNED_ROWS, COLUMNS, ROWS, ALL, KRONECKER, POWER, TRIPLES, CALLS
 };
 static int (*const calls[CALLS])(const struct operands *of, struct cbgrid_matrix **out) = {
     product_of, sum_of,    times_of, pruned_of, column_sums_of, row_sums_of, vector_of,
     total_of,   turned_of, upper_of, applied_to, excluded_of,   updated_of,  updated_under,
-    both_of, turned_rows_of, columns_of, rows_of, all_of, kronecker_of, power_of,
+    both_of, turned_rows_of, columns_of, rows_of, all_of, kronecker_of, power_of, triples_of,
 };
 
 /* Operands of the same shape, and a share for each of several threads; a few entries less and a few more than are left to one
@@ -297,7 +309,7 @@ static void test_calls_codes(void) {
         {TURNED, {NULL, a, NULL, NULL}, CBGRID_NULL_POINTER},
         {APPLIED, {NULL, a, NULL, NULL}, CBGRID_NULL_POINTER}, {EXCLUDED, {a, NULL, NULL, NULL}, CBGRID_NULL_POINTER},
         {UPDATED, {a, NULL, a, NULL}, CBGRID_NULL_POINTER},
-        {BOTH, {.b = a}, CBGRID_NULL_POINTER}, {KRONECKER, {.a = a}, CBGRID_NULL_POINTER},
+        {BOTH, {.b = a}, CBGRID_NULL_POINTER}, {TRIPLES, {.b = a}, CBGRID_NULL_POINTER}, {KRONECKER, {.a = a}, CBGRID_NULL_POINTER},
         {POWER, {.b = a}, CBGRID_NULL_POINTER}, {POWER, {.a = wide, .b = a}, CBGRID_NOT_SQUARE},
     };
     struct cbgrid_matrix *out = NULL;

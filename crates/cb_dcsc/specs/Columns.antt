@@ -1,5 +1,5 @@
 -- The columns of a block, in terms of its entries.
-use Rattle.std.specs.Prelude.{ℕ, ◌==◌, cond, List, [], ◌∷◌, ◌++◌, filter, map}
+use Rattle.std.specs.Prelude.{ℕ, ◌+◌, ◌-◌, ◌==◌, ◌&&◌, Bool, nat_le, nat_lt, cond, List, [], ◌∷◌, ◌++◌, filter, map}
 use Rattle.cb_matrix.specs.declared.Entry.{Entry}
 use Rattle.cb_matrix.specs.Sparse.{Sparse}
 
@@ -42,3 +42,15 @@ unfoldable pub revalued : List Entry → List ℕ → List Entry
 revalued [] vs = []
 revalued (e ∷ es) [] = []
 revalued (e ∷ es) (v ∷ vs) = record { row = e.row; column = e.column; value = v } ∷ revalued es vs
+
+-- whether an entry is in a range of columns, given by its first column and the one after its last
+abbrev pub is_in_columns : ℕ × ℕ → Entry → Bool
+is_in_columns cols e = nat_le cols.0 e.column && nat_lt e.column cols.1
+
+-- an entry, moved so that row 0 and the given column come to a corner
+abbrev pub moved_to : ℕ × ℕ → ℕ → Entry → Entry
+moved_to corner column e = record { row = e.row + corner.0; column = e.column - column + corner.1; value = e.value }
+
+-- the entries in a range of columns, moved so that row 0 and the first of these columns come to a corner
+abbrev pub moved_columns : ℕ × ℕ → ℕ × ℕ → List Entry → List Entry
+moved_columns cols corner es = map (moved_to corner cols.0) (filter (is_in_columns cols) es)

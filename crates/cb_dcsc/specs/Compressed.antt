@@ -10,6 +10,12 @@ entries_in j [] vs = []
 entries_in j (i ∷ is) [] = []
 entries_in j (i ∷ is) (v ∷ vs) = record { row = i; column = j; value = v } ∷ entries_in j is vs
 
+-- the entries of one row, by their columns and values
+unfoldable pub entries_in_row : ℕ → List ℕ → List ℕ → List Entry
+entries_in_row i [] vs = []
+entries_in_row i (j ∷ js) [] = []
+entries_in_row i (j ∷ js) (v ∷ vs) = record { row = i; column = j; value = v } ∷ entries_in_row i js vs
+
 -- the n-th part of a list, from its start to the next one
 abbrev pub part : List ℕ → List ℕ → ℕ → List ℕ
 part starts xs n = slice_range xs (slice_index starts n) (slice_index starts (n + 1))

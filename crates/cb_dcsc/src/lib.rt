@@ -19,10 +19,13 @@ ghost use Rattle.cb_semirings.specs.Arithmetic.{IsValue};
 ghost use Rattle.cb_dcsc.specs.Compressed.{opened, entries_in, with_column, csc_matrix, AreStarts, AreNonempty};
 
 mod block_faults;
+mod column_ranges;
+mod single_rows;
 
 pub use block_faults::BlockFault;
 use cb_matrix::{Entry, Shape};
 use cb_semirings::Semiring;
+pub use column_ranges::first_from;
 use std::alloc::{AllocError, Global};
 use std::marker::{Model, PhantomData};
 use std::mem::swap;

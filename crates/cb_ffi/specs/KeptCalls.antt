@@ -1,5 +1,5 @@
 -- What C gets of a call that keeps a matrix.
-use Rattle.std.specs.Prelude.{◌≡◌, ℕ, ◌==◌, ◌⊎◌, Bool, List, cond, length, Option, None, Some, IfSome}
+use Rattle.std.specs.Prelude.{◌≡◌, ◌≢◌, ℕ, ◌==◌, ◌⊎◌, Bool, List, cond, length, take, Option, None, Some, IfSome}
 use Rattle.std.specs.Borrow.{MutBor}
 use Rattle.cb_semirings.specs.Names.{arithmetic_of, numbered}
 use Rattle.cb_semirings.specs.Arithmetic.{Arithmetic}
@@ -7,23 +7,26 @@ use Rattle.cb_semirings.specs.declared.names.SemiringName.{SemiringName}
 use Rattle.cb_operations.specs.declared.graphs.GraphTask.{GraphTask}
 use Rattle.cb_operations.specs.declared.operations.Operation.{Operation}
 use Rattle.cb_operations.specs.declared.selections.Selection.{Selection}
+use Rattle.cb_operations.specs.OperationAnswers.{operand_count_of}
+use Rattle.cb_operations.specs.SelectionAnswers as selections
 use Rattle.cb_lists.specs.declared.lists.Columns.{Columns}
 use Rattle.cb_kept.specs.declared.triples.Triple.{Triple}
 use Rattle.cb_kept.specs.declared.faults.Fault.{Fault}
 use Rattle.cb_kept.specs.declared.faults.Fault.TheVariants.{Memory}
 use Rattle.cb_kept.specs.declared.kept.Kept.{Kept}
 use Rattle.cb_kept.specs.Refusals.{code_of, over, read_faults, list_faults}
-use Rattle.cb_kept.specs.KeptAnswers.{kept_faults, HasMadeKept, OverName, IsKeptOf}
+use Rattle.cb_kept.specs.declared.choices.Choice.{Choice}
+use Rattle.cb_kept.specs.Choices.{IsChosen}
+use Rattle.cb_kept.specs.KeptAnswers.{kept_faults, HasMade, OverName, IsKeptOf}
 use Rattle.cb_kept.specs.Kept.{matrix_in, semiring_of}
-use Rattle.cb_kept.specs.KeptSelections.{selection_faults, HasSelected, HasSelectedColumns, number_faults, IsKeptExtract, IsKeptExtractColumns}
+use Rattle.cb_kept.specs.KeptSelections.{selection_faults, HasSelected, number_faults, IsKeptExtract}
 use Rattle.cb_kept.specs.KeptTurned.{turned_faults, IsKeptTurned}
 use Rattle.cb_selections.specs.declared.updates.WriteBack.{WriteBack}
-use Rattle.cb_kept.specs.KeptUpdates.{update_faults, HasUpdated, HasUpdatedColumns}
+use Rattle.cb_kept.specs.KeptUpdates.{update_faults, HasUpdated}
 use Rattle.cb_kept.specs.KeptProducts.{outside_faults, IsKeptOutside}
 use Rattle.cb_shares.specs.Shares.{AreEnds}
-use Rattle.cb_kept.specs.declared.kept_masked_panels.Allowed.{Allowed}
-use Rattle.cb_kept.specs.KeptPanels.{factor_faults, join_faults, IsKeptJoin, IsKeptMaskedPanel, IsKeptPanel}
-use Rattle.cb_kept.specs.KeptShares.{pair_faults, HasMadeColumns}
+use Rattle.cb_kept.specs.KeptPanels.{join_faults, IsKeptJoin}
+use Rattle.cb_kept.specs.KeptShares.{factor_faults, pair_faults}
 use Rattle.cb_kept.specs.KeptSums.{AddsShare, IsKeptColumn, IsKeptShare, share_faults, sum_faults}
 use Rattle.cb_kept.specs.declared.kept_sums.Sums.{Sums}
 use Rattle.cb_kept.specs.declared.kept_graphs.KeptAnswer.{KeptAnswer}
@@ -47,31 +50,57 @@ abbrev pub IsKeptCallOver : ℕ → (Arithmetic → Fault → Type 0) → (Arith
 IsKeptCallOver semiring faults is =
     IsKeptCall (over (numbered semiring) faults) (λ k. OverName (numbered semiring) (λ name. is (arithmetic_of name) name k))
 
--- the same of an operation on kept matrices
-unfoldable pub IsKeptOperation : Option Operation → List Kept → ℕ → Owned → Owned → Type 0
-IsKeptOperation operation ks code old new = IsKeptCall (kept_faults operation ks) (HasMadeKept operation ks) code old new
+-- how many matrices an operation, or a selection, takes; one of an unknown number takes none
+abbrev pub count_of : Option Operation → ℕ
+count_of None = 0
+count_of (Some operation) = operand_count_of operation
 
--- the same of a selection from kept matrices, of rows and columns by their numbers, and of a product of transposes
-unfoldable pub IsSelectionCall : Option Selection → List Kept → ℕ → Owned → Owned → Type 0
-IsSelectionCall selection ks code old new = IsKeptCall (selection_faults selection ks) (HasSelected selection ks) code old new
+abbrev pub selection_count_of : Option Selection → ℕ
+selection_count_of None = 0
+selection_count_of (Some selection) = selections.operand_count_of selection
+
+-- what C gets of a call that keeps columns of an operation's result, of a share of a sum, and of a selection. The call is given at
+-- least as many matrices as it takes.
+unfoldable pub IsOperationCall : Option Operation → ℕ → ℕ → List Kept → ℕ → Owned → Owned → Type 0
+IsOperationCall operation first end given code old new =
+    let ks = take (count_of operation) given in IsKeptCall (kept_faults operation ks) (HasMade operation first end ks) code old new
+
+unfoldable pub IsShareCall : Option Operation → ℕ → ℕ → List Kept → ℕ → Sums → Sums → Type 0
+IsShareCall operation first end given code old new =
+    let ks = take (count_of operation) given in IsCall (kept_faults operation ks) (IsKeptShare operation first end ks) code old new
+
+unfoldable pub IsSelectionCall : Option Selection → ℕ → ℕ → List Kept → ℕ → Owned → Owned → Type 0
+IsSelectionCall selection first end given code old new =
+    let ks = take (selection_count_of selection) given in IsKeptCall (selection_faults selection ks) (HasSelected selection first end ks) code old new
+
+-- the same of the selection of a choice
+abbrev pub IsChoiceCall : Choice → ℕ → ℕ → List Kept → ℕ → Owned → Owned → Type 0
+IsChoiceCall choice first end given code old new = (o : Option Selection) × IsChosen choice o × IsSelectionCall o first end given code old new
 
 -- a list, unless all numbers are meant: those of a number other than 0
 abbrev pub unless_all : ℕ → List ℕ → Option (List ℕ)
 unless_all all numbers = cond (all == 0) (Some numbers) None
 
-unfoldable pub IsExtractCall : Option (List ℕ) → Option (List ℕ) → Kept → ℕ → Owned → Owned → Type 0
-IsExtractCall rows cols k code old new = IsKeptCall (number_faults rows cols (matrix_in k).shape) (IsKeptExtract rows cols k) code old new
+-- the same of rows and columns by their numbers
+unfoldable pub IsExtractCall : Option (List ℕ) → Option (List ℕ) → ℕ → ℕ → Kept → ℕ → Owned → Owned → Type 0
+IsExtractCall rows cols first end k code old new =
+    IsKeptCall (number_faults rows cols (matrix_in k).shape) (IsKeptExtract rows cols first end k) code old new
 
+-- of a product of transposes, which is kept whole
 unfoldable pub IsTurnedCall : Bool → Bool → Kept → Kept → ℕ → Owned → Owned → Type 0
 IsTurnedCall left right a b code old new = IsKeptCall (turned_faults left right a b) (IsKeptTurned left right a b) code old new
 
+-- a mask, if there is one: with a number other than 0
+abbrev pub if_masked : ℕ → Kept → Option Kept
+if_masked masked mask = cond (masked == 0) None (Some mask)
+
 -- the same of a kept matrix updated by another, under a mask if there is one
-unfoldable pub IsUpdateCall : Option WriteBack → Kept → Kept → Option Kept → ℕ → Owned → Owned → Type 0
-IsUpdateCall how a b mask code old new = IsKeptCall (update_faults how a b mask) (HasUpdated how a b mask) code old new
+unfoldable pub IsUpdateCall : Option WriteBack → ℕ → ℕ → Kept → Kept → Option Kept → ℕ → Owned → Owned → Type 0
+IsUpdateCall how first end a b mask code old new = IsKeptCall (update_faults how a b mask) (HasUpdated how first end a b mask) code old new
 
 -- the same of a product outside a mask
-unfoldable pub IsOutsideCall : Kept → Kept → Kept → ℕ → Owned → Owned → Type 0
-IsOutsideCall a b mask code old new = IsKeptCall (outside_faults a b mask) (IsKeptOutside a b mask) code old new
+unfoldable pub IsOutsideCall : ℕ → ℕ → Kept → Kept → Kept → ℕ → Owned → Owned → Type 0
+IsOutsideCall first end a b mask code old new = IsKeptCall (outside_faults a b mask) (IsKeptOutside first end a b mask) code old new
 
 -- C owns this kept matrix; or memory for it was refused, and C has what it had
 abbrev pub HasHandedOut : ℕ → Owned → Owned → Kept → Type 0
@@ -113,38 +142,17 @@ IsReadCall semiring text code old new =
 unfoldable pub IsEntryEndsCall : Kept → Kept → ℕ → List ℕ → List ℕ → Type 0
 IsEntryEndsCall a b code old new = IsCall (pair_faults a b) (AreEnds (length old) (matrix_in a).shape.cols) code old new
 
--- of the call that keeps the columns of a range of an operation's result
-unfoldable pub IsColumnsCall : Option Operation → ℕ → ℕ → List Kept → ℕ → Owned → Owned → Type 0
-IsColumnsCall operation first end ks code old new = IsKeptCall (kept_faults operation ks) (HasMadeColumns operation first end ks) code old new
+-- the same of the columns of their product
+unfoldable pub IsProductEndsCall : Kept → Kept → ℕ → List ℕ → List ℕ → Type 0
+IsProductEndsCall a b code old new = IsCall (factor_faults a b) (AreEnds (length old) (matrix_in b).shape.cols) code old new
 
--- the same of a selection, of rows and columns by their numbers, and of a matrix updated by another
-unfoldable pub IsSelectionColumnsCall : Option Selection → ℕ → ℕ → List Kept → ℕ → Owned → Owned → Type 0
-IsSelectionColumnsCall selection first end ks code old new = IsKeptCall (selection_faults selection ks) (HasSelectedColumns selection first end ks) code old new
-
-unfoldable pub IsExtractColumnsCall : Option (List ℕ) → Option (List ℕ) → ℕ → ℕ → Kept → ℕ → Owned → Owned → Type 0
-IsExtractColumnsCall rows cols first end k code old new = IsKeptCall (number_faults rows cols (matrix_in k).shape) (IsKeptExtractColumns rows cols first end k) code old new
-
-unfoldable pub IsUpdateColumnsCall : Option WriteBack → ℕ → ℕ → Kept → Kept → Option Kept → ℕ → Owned → Owned → Type 0
-IsUpdateColumnsCall how first end a b mask code old new = IsKeptCall (update_faults how a b mask) (HasUpdatedColumns how first end a b mask) code old new
-
--- what C gets of the call that parts a product's columns into as many ranges as its list has places
-unfoldable pub IsEndsCall : Kept → Kept → ℕ → List ℕ → List ℕ → Type 0
-IsEndsCall a b code old new = IsCall (factor_faults a b) (AreEnds (length old) (matrix_in b).shape.cols) code old new
-
--- of the call that makes the panel of a range
-unfoldable pub IsPanelCall : ℕ → ℕ → Kept → Kept → ℕ → Owned → Owned → Type 0
-IsPanelCall first end a b code old new = IsKeptCall (factor_faults a b) (IsKeptPanel first end a b) code old new
-
--- the same of a product at the places that a mask allows
-unfoldable pub IsMaskedPanelCall : Allowed → ℕ → ℕ → Kept → Kept → Kept → ℕ → Owned → Owned → Type 0
-IsMaskedPanelCall allowed first end a b mask code old new = IsKeptCall (outside_faults a b mask) (IsKeptMaskedPanel allowed first end a b mask) code old new
+-- of both, by a number: 0 for the columns of the two, any other for those of their product
+pub record IsEndsCall (by_products : ℕ) (a b : Kept) (code : ℕ) (old new : List ℕ) : Type 0 where
+  pub entries : by_products ≡ 0 → IsEntryEndsCall a b code old new
+  pub products : by_products ≢ 0 → IsProductEndsCall a b code old new
 
 -- ---- sums over columns by several threads
--- what C gets of the call that lists what some columns add to the result of an operation
-unfoldable pub IsShareCall : Operation → ℕ → ℕ → List Kept → ℕ → Sums → Sums → Type 0
-IsShareCall operation first end ks code old new = IsCall (kept_faults (Some operation) ks) (IsKeptShare operation first end ks) code old new
-
--- of the call that adds such a list to another
+-- what C gets of the call that adds a share of a sum to another
 unfoldable pub IsAddCall : Kept → List ℕ → ℕ → List ℕ → List ℕ → Type 0
 IsAddCall like more code old new =
     IsCall (share_faults (arithmetic_of (semiring_of like)) old more) (AddsShare (arithmetic_of (semiring_of like)) old more) code old new

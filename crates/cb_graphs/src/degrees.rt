@@ -101,7 +101,7 @@ fn column_counts<S: Semiring>(alloc: Global, block: &Block<S>) -> Result<Vec<u64
     let mut counts = Vec::with_capacity(alloc, columns)?;
     for n in 0..columns {
         let (start, end) = block.nth_range(n);
-        counts.push((end - start) as u64)?;
+        counts.push_reserved((end - start) as u64);
     }
     Ok(counts)
 }

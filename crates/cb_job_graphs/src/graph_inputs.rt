@@ -10,7 +10,7 @@ use cb_bases::Based;
 use cb_dcsc::Block;
 use cb_job_ends::faults::JobFault;
 use cb_job_ends::texts::Text;
-use cb_job_inputs::inputs::{read_one, read_pair};
+use cb_job_inputs::inputs::{read_beside, read_one};
 use cb_job_inputs::lists::{is_full, listed};
 use cb_layout::Grid;
 use cb_operations::{GraphTask, Refusal, SelectionRefusal, check_values};
@@ -52,7 +52,9 @@ pub fn graph_with_sources<S: Based + Send + Sync, R: Threads + Sync>(
     ensures fault { IfErr result (IsFaultBy beside_is.Sources S.arithmetic task texts.items) }
     ensures unwritten { IfErr result (λ f. f ≢ JobFault.Output) }
 {
-    let (graph, list) = read_pair::<S, PlusTimes, R>(rt, alloc, threads, texts)?;
+    let grid = Grid::single();
+    let (graph, list, _) = read_beside::<S, PlusTimes, R>(rt, alloc, &grid, threads, texts)?;
+    let list = list.into_block();
     let shape = graph.shape();
     task.check(shape)?;
     if list.shape().cols() != 1 {
@@ -62,7 +64,7 @@ pub fn graph_with_sources<S: Based + Send + Sync, R: Threads + Sync>(
         return Err(JobFault::Refused(Refusal::Source));
     }
     let sources = listed(alloc, &list, shape.rows())?;
-    Ok((graph, sources))
+    Ok((graph.into_block(), sources))
 }
 
 /// Reads the graph of a task, and the initial values of its vertices.
@@ -80,9 +82,10 @@ pub fn graph_with_values<S: Based + Send + Sync, R: Threads + Sync>(
     ensures fault { IfErr result (IsFaultBy beside_is.Values S.arithmetic task texts.items) }
     ensures unwritten { IfErr result (λ f. f ≢ JobFault.Output) }
 {
-    let (graph, values) = read_pair::<S, MinPlus, R>(rt, alloc, threads, texts)?;
+    let grid = Grid::single();
+    let (graph, values, _) = read_beside::<S, MinPlus, R>(rt, alloc, &grid, threads, texts)?;
     let shape = graph.shape();
     task.check(shape)?;
     check_values(shape, values.shape())?;
-    Ok((graph, values))
+    Ok((graph.into_block(), values.into_block()))
 }

@@ -1,6 +1,6 @@
 -- Texts that are taken out of a list one after the other, and read.
 use Rattle.std.proofs.Common.{◌≡◌, ℕ, ◌+◌, ◌<◌, ◌≤◌, List, [], ◌∷◌, length, drop, vec_len, get_or, ap, sym, ◌∙◌, subst, ⊎_elim, arith}
-use Rattle.std.specs.Prelude.{Vec, Result, Ok, Err, IfOk}
+use Rattle.std.specs.Prelude.{Vec}
 use Rattle.std.proofs.lemmas.Bool.{cases_lt}
 use Rattle.std.proofs.lemmas.List.{get_or-drop, get_or_read}
 use Rattle.cb_semirings.specs.Arithmetic.{Arithmetic}
@@ -32,18 +32,9 @@ module _ (P : ℕ → Type 0) where
   at_first = up_to 0 (λ i l. absurd (omega arith))
 
 module _ (s : Arithmetic) (ts : List (List ℕ)) where
-  -- two texts, by the reading of both
-  pub both_are : {T E : Type 0} → length ts ≡ 2 → (left right : T → Sparse) (r : Result T E) → IfOk r (λ p. Reads s (text_at ts 0) (left p)) → IfOk r (λ p. Reads s (text_at ts 1) (right p))
-      → IfOk r (λ p. AreMatrices s ts (left p ∷ right p ∷ []))
-  both_are n left right (Ok p) a b =
-      let each : ℕ → Type 0 = λ i. Reads s (text_at ts i) (matrix_at (left p ∷ right p ∷ []) i) in
-      (sym n, rw n (up_to each 1 (at_first each a) b))
-  both_are n left right (Err e) a b = tt
-
-  -- three
-  pub three_are : {T E : Type 0} → length ts ≡ 3 → (first second third : T → Sparse) (r : Result T E) → IfOk r (λ p. Reads s (text_at ts 0) (first p)) → IfOk r (λ p. Reads s (text_at ts 1) (second p))
-      → IfOk r (λ p. Reads s (text_at ts 2) (third p)) → IfOk r (λ p. AreMatrices s ts (first p ∷ second p ∷ third p ∷ []))
-  three_are n first second third (Ok p) a b m =
-      let each : ℕ → Type 0 = λ i. Reads s (text_at ts i) (matrix_at (first p ∷ second p ∷ third p ∷ []) i) in
-      (sym n, rw n (up_to each 2 (up_to each 1 (at_first each a) b) m))
-  three_are n first second third (Err e) a b m = tt
+  -- three texts read as three matrices
+  pub three_read : (a b c : Sparse) → length ts ≡ 3 → Reads s (text_at ts 0) a → Reads s (text_at ts 1) b → Reads s (text_at ts 2) c
+      → AreMatrices s ts (a ∷ b ∷ c ∷ [])
+  three_read a b c n first second third =
+      let each : ℕ → Type 0 = λ i. Reads s (text_at ts i) (matrix_at (a ∷ b ∷ c ∷ []) i) in
+      (sym n, rw n (up_to each 2 (up_to each 1 (at_first each first) second) third))

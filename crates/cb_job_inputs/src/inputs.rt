@@ -1,15 +1,14 @@
 //! Reads the texts of a job. Each text is read in pieces by `threads` threads, in at most two for each, and dropped once it is
 //! read. Two long texts are read at once, each in at most one piece for each thread, or for each part in which it was loaded. So
 //! while one is joined the other's pieces have the processors.
-ghost use Rattle.std.specs.Prelude.{◌≡◌, ℕ, ◌≤◌, List, ◌∷◌, [], drop, vec_len, IfOk, IfErr, OnOk};
+ghost use Rattle.std.specs.Prelude.{◌≡◌, ℕ, ◌≤◌, List, ◌∷◌, [], drop, vec_len, IfOk, IfErr, IfSome, OnOk};
 ghost use Rattle.std.specs.Thread.{IsSync};
 ghost use Rattle.cb_market_lines.specs.Reads.{Reads};
-ghost use Rattle.cb_job_inputs.specs.Inputs.{AreMatrices, IsFirstReadFault, IsReadFault, IsTextFault, IsTextRead, arithmetic_at};
+ghost use Rattle.cb_job_inputs.specs.Inputs.{AreMatrices, IsFirstReadFault, IsReadFault, IsTextFault, IsTextRead, IsThirdOf, arithmetic_at};
 ghost use Rattle.cb_job_ends.specs.Texts.{text_at};
 
 use crate::reading::{Pieces, read_side_by_side};
 use cb_bases::Based;
-use cb_dcsc::Block;
 use cb_job_ends::faults::JobFault;
 use cb_job_ends::texts::Text;
 use cb_layout::{DistributedMatrix, Grid};
@@ -195,24 +194,8 @@ fn read_bases_at_once<S: Semiring + Send + Sync, T: Semiring + Send + Sync, R: T
     (left, right)
 }
 
-/// Reads two texts into the blocks of a grid.
-pub fn read_two<S: Based + Send + Sync, R: Threads + Sync>(
-    rt: &R,
-    alloc: Global,
-    grid: &Grid,
-    threads: u32,
-    mut texts: Vec<Text>,
-) -> Result<(DistributedMatrix<S>, DistributedMatrix<S>), JobFault>
-    requires { vec_len texts ≡ 2 }
-    ensures ok { IfOk result (λ p. AreMatrices S.arithmetic texts.items (p.0.matrix ∷ p.1.matrix ∷ [])) }
-    ensures sides { IfOk result (λ p. (p.0.side ≡ grid.now.side) × (p.1.side ≡ grid.now.side)) }
-    ensures fault { IfErr result (IsReadFault S.arithmetic texts.items) }
-{
-    read_both(rt, alloc, grid, threads, &mut texts)
-}
-
-/// Reads three texts into the blocks of a grid, the first over a semiring of its own.
-pub fn read_triple<S: Based + Send + Sync, T: Based + Send + Sync, R: Threads + Sync>(
+/// Reads two or three texts into the blocks of a grid, the first over a semiring and the others over one of their own.
+pub fn read_beside<S: Based + Send + Sync, T: Based + Send + Sync, R: Threads + Sync>(
     rt: &R,
     alloc: Global,
     grid: &Grid,
@@ -222,59 +205,23 @@ pub fn read_triple<S: Based + Send + Sync, T: Based + Send + Sync, R: Threads + 
     (
         DistributedMatrix<S>,
         DistributedMatrix<T>,
-        DistributedMatrix<T>,
+        Option<DistributedMatrix<T>>,
     ),
     JobFault,
 >
-    requires { vec_len texts ≡ 3 }
+    requires some { 2 ≤ vec_len texts }
+    requires few { vec_len texts ≤ 3 }
     ensures first { IfOk result (λ p. Reads S.arithmetic (text_at texts.items 0) p.0.matrix) }
     ensures second { IfOk result (λ p. Reads T.arithmetic (text_at texts.items 1) p.1.matrix) }
-    ensures third { IfOk result (λ p. Reads T.arithmetic (text_at texts.items 2) p.2.matrix) }
-    ensures sides { IfOk result (λ p. (p.0.side ≡ grid.now.side) × (p.1.side ≡ grid.now.side) × (p.2.side ≡ grid.now.side)) }
+    ensures third { IfOk result (λ p. IsThirdOf T.arithmetic texts.items p.2) }
+    ensures sides { IfOk result (λ p. (p.0.side ≡ grid.now.side) × (p.1.side ≡ grid.now.side) × IfSome p.2 (λ m. m.side ≡ grid.now.side)) }
     ensures fault { IfErr result (IsFirstReadFault (arithmetic_at S.arithmetic T.arithmetic) texts.items) }
 {
     let (first, second) = read_both::<S, T, R>(rt, alloc, grid, threads, &mut texts)?;
+    if texts.is_empty() {
+        return Ok((first, second, None));
+    }
     let text = texts.remove(0);
     let third = read_text(rt, alloc, grid, threads, 2, text)?;
-    Ok((first, second, third))
-}
-
-/// Reads three texts into the blocks of a grid.
-pub fn read_three<S: Based + Send + Sync, R: Threads + Sync>(
-    rt: &R,
-    alloc: Global,
-    grid: &Grid,
-    threads: u32,
-    texts: Vec<Text>,
-) -> Result<
-    (
-        DistributedMatrix<S>,
-        DistributedMatrix<S>,
-        DistributedMatrix<S>,
-    ),
-    JobFault,
->
-    requires { vec_len texts ≡ 3 }
-    ensures ok { IfOk result (λ p. AreMatrices S.arithmetic texts.items (p.0.matrix ∷ p.1.matrix ∷ p.2.matrix ∷ [])) }
-    ensures sides { IfOk result (λ p. (p.0.side ≡ grid.now.side) × (p.1.side ≡ grid.now.side) × (p.2.side ≡ grid.now.side)) }
-    ensures fault { IfErr result (IsReadFault S.arithmetic texts.items) }
-{
-    read_triple(rt, alloc, grid, threads, texts)
-}
-
-/// Reads two texts, each over its own semiring.
-pub fn read_pair<S: Based + Send + Sync, T: Based + Send + Sync, R: Threads + Sync>(
-    rt: &R,
-    alloc: Global,
-    threads: u32,
-    mut texts: Vec<Text>,
-) -> Result<(Block<S>, Block<T>), JobFault>
-    requires { vec_len texts ≡ 2 }
-    ensures first { IfOk result (λ p. Reads S.arithmetic (text_at texts.items 0) p.0) }
-    ensures second { IfOk result (λ p. Reads T.arithmetic (text_at texts.items 1) p.1) }
-    ensures fault { IfErr result (IsFirstReadFault (arithmetic_at S.arithmetic T.arithmetic) texts.items) }
-{
-    let grid = Grid::single();
-    let (left, right) = read_both::<S, T, R>(rt, alloc, &grid, threads, &mut texts)?;
-    Ok((left.into_block(), right.into_block()))
+    Ok((first, second, Some(third)))
 }

@@ -38,12 +38,6 @@ IsFaultOver operation s texts Absent = ⊥
 IsFaultOver operation s texts Memory = AreOperands operation s texts
 IsFaultOver operation s texts Output = AreOperands operation s texts
 
--- why an operation on these matrices has no answer: their shapes don't agree, or they do and memory was refused
-abbrev pub IsMatricesFault : Operation → List Sparse → JobFault → Type 0
-IsMatricesFault operation ms (Refused refusal_is.Shapes) = ¬ Agree operation (shapes_in ms)
-IsMatricesFault operation ms Memory = Agree operation (shapes_in ms)
-IsMatricesFault operation ms _ = ⊥
-
 -- how a call ends that writes the answer of an operation over a semiring
 abbrev pub IsEndOver : {T : Type 0} → Operation → Arithmetic → List (List ℕ) → Option (List ℕ) → Option (List ℕ) → Bool → Result T JobFault → Type 0
 IsEndOver operation s = IsEndOn (IsAnswerOver operation s) (IsFaultOver operation s)

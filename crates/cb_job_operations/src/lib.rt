@@ -4,6 +4,5 @@
 //! computes the result. Threads that share whole matrices do both.
 #![tactic(auto)]
 
-mod alone;
 pub mod named_operations;
 pub mod operation_answers;

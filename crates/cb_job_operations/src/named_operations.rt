@@ -7,12 +7,13 @@ ghost use Rattle.cb_job_operations.specs.OperationTexts.{IsEndOver};
 
 use crate::operation_answers::operation_answer;
 use cb_bases::Based;
+use cb_command_line::over_distributive;
 use cb_job_ends::faults::JobFault;
 use cb_job_ends::sinks::Sink;
 use cb_job_ends::texts::Text;
 use cb_job_output::answers::put_answer;
 use cb_operations::Operation;
-use cb_semirings::{MaxMin, MinPlus, OrAnd, PlusTimes, SemiringName};
+use cb_semirings::SemiringName;
 use std::alloc::Global;
 use std::thread::Threads;
 
@@ -33,8 +34,7 @@ fn put_operation<S: Based + Send + Sync, R: Threads + Sync, K: Sink>(
     put_answer(rt, alloc, threads, answer, out)
 }
 
-/// Writes the answer of an operation, over the distributive semiring of a name. A program that needs no others is compiled in
-/// less than half the time.
+/// Writes the answer of an operation, over the distributive semiring of a name.
 pub fn execute_distributive_operation<R: Threads + Sync, K: Sink>(
     rt: &R,
     alloc: Global,
@@ -49,19 +49,8 @@ pub fn execute_distributive_operation<R: Threads + Sync, K: Sink>(
     requires works { K.has_failed out.old ≡ false }
     ensures { IsEndOver operation (arithmetic_of semiring) texts.items (K.written out.old) (K.written out.new) (K.has_failed out.new) result }
 {
-    match semiring {
-        SemiringName::PlusTimes => {
-            put_operation::<PlusTimes, R, K>(rt, alloc, threads, operation, texts, out)
-        }
-        SemiringName::MinPlus => {
-            put_operation::<MinPlus, R, K>(rt, alloc, threads, operation, texts, out)
-        }
-        SemiringName::OrAnd => {
-            put_operation::<OrAnd, R, K>(rt, alloc, threads, operation, texts, out)
-        }
-        SemiringName::MaxMin => {
-            put_operation::<MaxMin, R, K>(rt, alloc, threads, operation, texts, out)
-        }
-        _ => unreachable!(),
-    }
+    over_distributive!(
+        semiring,
+        put_operation::<_, R, K>(rt, alloc, threads, operation, texts, out)
+    )
 }

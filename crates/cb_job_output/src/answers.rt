@@ -41,8 +41,8 @@ fn put_number<K: Sink>(alloc: Global, number: u64, out: &mut K) -> Result<(), Jo
     }
 }
 
-/// Writes the text of an answer, and frees the answer. This many threads make the lines of a matrix or a column, and the
-/// caller's writes them; or it does both, if it is alone or the entries are few.
+/// Writes the text of an answer, a matrix over the base of its semiring, and frees the answer. This many threads make the lines
+/// of a matrix or a column, and the caller's writes them; or it does both, if it is alone or the entries are few.
 ///
 /// All memory is taken first: at `Memory` nothing has been written. At `Output` the sink has failed, which it has in no other
 /// case, and a beginning of the text has been written.
@@ -57,8 +57,14 @@ pub fn put_answer<S: Based + Send + Sync, R: Threads + Sync, K: Sink>(
     ensures { IsTextEnd (text_of_answer S.arithmetic answer) (K.written out.old) (K.written out.new) (K.has_failed out.new) result }
 {
     match answer {
-        Answer::Matrix(matrix) => put_matrix(rt, alloc, threads, matrix, out),
+        Answer::Matrix(matrix) => {
+            let _shape = matrix.shape();
+            let matrix = matrix.recast::<S::Base>(alloc)?;
+            put_matrix(rt, alloc, threads, matrix, out)
+        }
         Answer::Blocks(matrix, lines) => {
+            let _shape = matrix.shape();
+            let matrix = matrix.recast::<S::Base>(alloc)?;
             put_blocks_and_lines(rt, alloc, threads, matrix, lines.as_bytes(), out)
         }
         Answer::Column(column, form) => put_column(rt, alloc, threads, column, form, out),

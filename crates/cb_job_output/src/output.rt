@@ -9,7 +9,6 @@ ghost use Rattle.cb_job_ends.specs.WriteEnds.{IsTextEnd, end_of_put};
 
 use crate::rounds::{Dealt, FEW, Form, Round};
 use crate::stacks::Stack;
-use cb_bases::Based;
 use cb_dcsc::Block;
 use cb_job_ends::faults::JobFault;
 use cb_job_ends::sinks::{PutFault, Sink, put_all};
@@ -354,23 +353,7 @@ pub fn put_text_and_lines<S: Semiring + Send + Sync, R: Threads + Sync, K: Sink>
 }
 
 /// Writes the text of a matrix, with the same faults, and then frees the matrix.
-pub(crate) fn put_matrix<S: Based + Send + Sync, R: Threads + Sync, K: Sink>(
-    rt: &R,
-    alloc: Global,
-    threads: u32,
-    matrix: PanelledMatrix<S>,
-    out: &mut K,
-) -> Result<(), JobFault>
-    requires { K.has_failed out.old ≡ false }
-    ensures { IsTextEnd (text_of S.arithmetic matrix) (K.written out.old) (K.written out.new) (K.has_failed out.new) result }
-{
-    let _shape = matrix.shape();
-    let matrix = matrix.recast::<S::Base>(alloc)?;
-    put_panels(rt, alloc, threads, matrix, out)
-}
-
-/// The same over the base of its semiring.
-fn put_panels<S: Semiring + Send + Sync, R: Threads + Sync, K: Sink>(
+pub(crate) fn put_matrix<S: Semiring + Send + Sync, R: Threads + Sync, K: Sink>(
     rt: &R,
     alloc: Global,
     threads: u32,
@@ -401,24 +384,7 @@ pub(crate) fn put_column<S: Semiring + Send + Sync, R: Threads + Sync, K: Sink>(
 }
 
 /// Writes the text of a matrix over a grid and some lines after it, with the same faults, and then frees the matrix.
-pub(crate) fn put_blocks_and_lines<S: Based + Send + Sync, R: Threads + Sync, K: Sink>(
-    rt: &R,
-    alloc: Global,
-    threads: u32,
-    matrix: DistributedMatrix<S>,
-    lines: &[u8],
-    out: &mut K,
-) -> Result<(), JobFault>
-    requires { K.has_failed out.old ≡ false }
-    ensures { IsTextEnd (text_of S.arithmetic matrix.matrix ++ lines.now) (K.written out.old) (K.written out.new) (K.has_failed out.new) result }
-{
-    let _shape = matrix.shape();
-    let matrix = matrix.recast::<S::Base>(alloc)?;
-    put_grid_and_lines(rt, alloc, threads, matrix, lines, out)
-}
-
-/// The same over the base of its semiring.
-fn put_grid_and_lines<S: Semiring + Send + Sync, R: Threads + Sync, K: Sink>(
+pub(crate) fn put_blocks_and_lines<S: Semiring + Send + Sync, R: Threads + Sync, K: Sink>(
     rt: &R,
     alloc: Global,
     threads: u32,

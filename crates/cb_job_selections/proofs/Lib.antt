@@ -1,2 +1,1 @@
-mod SelectionFaults
 mod ListFaults

@@ -6,8 +6,6 @@ use Rattle.cb_market_pages.specs.Text.{text_of}
 use Rattle.cb_operations.specs.declared.selections.Selection.{Selection}
 use Rattle.cb_operations.specs.OperationAnswers.{shapes_in}
 use Rattle.cb_operations.specs.SelectionAnswers.{IsRefusal, Suits, answer_of}
-use Rattle.cb_selections.specs.declared.selections.SelectionFault.{SelectionFault}
-use Rattle.cb_selections.specs.declared.selections.SelectionFault.TheVariants as selection_is
 use Rattle.cb_job_selections.specs.Extracts.{IsExtractAnswer, IsExtractFault}
 use Rattle.cb_command_line.specs.declared.tasks.SelectionTask.{SelectionTask}
 use Rattle.cb_command_line.specs.declared.tasks.SelectionTask.TheVariants as task_is
@@ -42,17 +40,6 @@ IsSelectedFault selection s texts (Ranks fault) = ⊥
 IsSelectedFault selection s texts Absent = ⊥
 IsSelectedFault selection s texts Memory = AreSelectable selection s texts
 IsSelectedFault selection s texts Output = AreSelectable selection s texts
-
--- why there is no selection from these matrices: it is refused, or it isn't and memory was
-abbrev pub IsBlocksFault : Selection → Arithmetic → List Sparse → JobFault → Type 0
-IsBlocksFault selection s ms (Unselected refusal) = IsRefusal selection s (shapes_in ms) refusal
-IsBlocksFault selection s ms Memory = Suits selection s (shapes_in ms)
-IsBlocksFault selection s ms _ = ⊥
-
--- the fault of a job for a fault of a selection from blocks
-abbrev pub job_fault_of : SelectionFault → JobFault
-job_fault_of (selection_is.Refused refusal) = Unselected refusal
-job_fault_of selection_is.Memory = Memory
 
 -- ---- of a selection, or of rows and columns by lists
 -- its answer over a semiring

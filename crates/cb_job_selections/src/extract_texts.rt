@@ -1,164 +1,123 @@
 //! Rows and columns of the matrix of a text by their numbers, which are listed in other texts. The caller's thread makes them.
-ghost use Rattle.std.specs.Prelude.{◌≡◌, ◌≢◌, ◌+◌, vec_len, IfOk, IfErr, OnOk};
-ghost use Rattle.cb_selections.specs.Extracted.{rows_by, columns_by};
+ghost use Rattle.std.specs.Prelude.{◌≡◌, ◌+◌, vec_len, option_map, IfOk, IfErr, OnOk};
+ghost use Rattle.cb_semirings.specs.Tables.{plus_times};
+ghost use Rattle.cb_selections.specs.Extracted.{AreBelow, AreFew};
 ghost use Rattle.cb_command_line.specs.Jobs.{list_count_of};
-ghost use Rattle.cb_command_line.specs.declared.lists.Lists.TheVariants as lists_are;
-ghost use Rattle.cb_job_inputs.specs.Lists.{IsList, numbers_in};
-ghost use Rattle.cb_operations.specs.declared.refusals.SelectionRefusal.TheVariants.{NoRow, NoColumn};
-ghost use Rattle.cb_job_selections.specs.Extracts.{AreLists, AreListsFault, AreListsRefused, IsExtractFault, IsExtractOf, IsPartOf, IsListFault};
+ghost use Rattle.cb_job_inputs.specs.Inputs.{IsFirstReadFault, arithmetic_at};
+ghost use Rattle.cb_job_inputs.specs.Lists.{numbers_in};
+ghost use Rattle.cb_job_selections.specs.Extracts.{AreListsFault, AreListsRefused, AreLists, AreWithLists, IsListRefusal, IsListed, IsPartOf};
 ghost use Rattle.cb_job_selections.specs.SelectionTexts.{IsSelectionAnswered};
 ghost use Rattle.cb_command_line.specs.declared.tasks.SelectionTask.TheVariants as task_is;
 
-use crate::list_checks::{check_list, numbers_of};
-use crate::list_operands::read_with_lists;
 use cb_bases::Based;
 use cb_command_line::Lists;
 use cb_dcsc::Block;
 use cb_job_ends::faults::JobFault;
 use cb_job_ends::texts::Text;
-use cb_job_inputs::inputs::read_pair;
-use cb_job_inputs::lists::listed;
+use cb_job_inputs::inputs::read_beside;
+use cb_job_inputs::lists::{is_full, listed};
 use cb_job_output::answers::Answer;
-use cb_layout::PanelledMatrix;
+use cb_layout::{Grid, PanelledMatrix};
 use cb_matrix::Shape;
 use cb_operations::SelectionRefusal;
-use cb_selections::{extract, extract_columns, extract_rows};
+use cb_selections::extract;
 use cb_semirings::{PlusTimes, Semiring};
-use std::alloc::Global;
+use std::alloc::{AllocError, Global};
 use std::thread::Threads;
 
-/// The listed rows of a block.
-fn rows_of<S: Semiring>(
-    alloc: Global,
-    block: &Block<S>,
-    rows: &Block<PlusTimes>,
-) -> Result<PanelledMatrix<S>, JobFault>
-    ensures ok { IfOk result (λ m. IsList block.now.shape.rows rows.now × (m ≡ rows_by S.arithmetic (numbers_in rows.now) block.now)) }
-    ensures fault { IfErr result (IsListFault NoRow block.now.shape.rows rows.now) }
-{
-    let numbers = numbers_of(alloc, rows, block.shape().rows(), SelectionRefusal::NoRow)?;
-    let part = extract_rows(alloc, block, &numbers)?;
-    Ok(PanelledMatrix::from_block(alloc, part))
-}
-
-/// The listed columns of a block.
-fn columns_of<S: Semiring>(
-    alloc: Global,
-    block: &Block<S>,
-    columns: &Block<PlusTimes>,
-) -> Result<PanelledMatrix<S>, JobFault>
-    ensures ok { IfOk result (λ m. IsList block.now.shape.cols columns.now × (m ≡ columns_by S.arithmetic (numbers_in columns.now) block.now)) }
-    ensures fault { IfErr result (IsListFault NoColumn block.now.shape.cols columns.now) }
-{
-    let numbers = numbers_of(
-        alloc,
-        columns,
-        block.shape().cols(),
-        SelectionRefusal::NoColumn,
-    )?;
-    let part = extract_columns(alloc, block, &numbers)?;
-    Ok(PanelledMatrix::from_block(alloc, part))
-}
-
-/// Checks that two matrices list rows and columns of a block.
-fn check_lists<S: Semiring>(
-    block: &Block<S>,
-    rows: &Block<PlusTimes>,
-    columns: &Block<PlusTimes>,
-) -> Result<(), SelectionRefusal>
-    ensures ok { OnOk result (AreLists block.now rows.now columns.now) }
-    ensures refused { IfErr result (AreListsRefused block.now rows.now columns.now) }
-{
-    let shape = block.shape();
-    check_list(rows, shape.rows(), SelectionRefusal::NoRow)?;
-    check_list(columns, shape.cols(), SelectionRefusal::NoColumn)
-}
-
-/// The listed rows and columns of a block.
-fn part_of<S: Semiring>(
-    alloc: Global,
-    block: &Block<S>,
-    rows: &Block<PlusTimes>,
-    columns: &Block<PlusTimes>,
-) -> Result<PanelledMatrix<S>, JobFault>
-    ensures ok { IfOk result (IsPartOf S.arithmetic block.now rows.now columns.now) }
-    ensures fault { IfErr result (AreListsFault block.now rows.now columns.now) }
-{
-    let shape = block.shape();
-    check_lists(block, rows, columns)?;
-    let some_rows = listed(alloc, rows, shape.rows())?;
-    let some_columns = listed(alloc, columns, shape.cols())?;
-    let numbers = (Some(some_rows.as_slice()), Some(some_columns.as_slice()));
-    let part = extract(alloc, block, numbers.0, numbers.1)?;
-    Ok(PanelledMatrix::from_block(alloc, part))
-}
-
-/// Reads a matrix and a list, and makes the listed rows.
-fn some_rows<S: Based + Send + Sync, R: Threads + Sync>(
-    rt: &R,
-    alloc: Global,
-    threads: u32,
-    texts: Vec<Text>,
-) -> Result<PanelledMatrix<S>, JobFault>
-    requires { vec_len texts ≡ 2 }
-    ensures ok { IfOk result (IsExtractOf lists_are.Rows S.arithmetic texts.items) }
-    ensures fault { IfErr result (IsExtractFault lists_are.Rows S.arithmetic texts.items) }
-    ensures unwritten { IfErr result (λ f. f ≢ JobFault.Output) }
-{
-    let (matrix, rows) = read_pair::<S, PlusTimes, R>(rt, alloc, threads, texts)?;
-    rows_of(alloc, &matrix, &rows)
-}
-
-/// Reads a matrix and a list, and makes the listed columns.
-fn some_columns<S: Based + Send + Sync, R: Threads + Sync>(
-    rt: &R,
-    alloc: Global,
-    threads: u32,
-    texts: Vec<Text>,
-) -> Result<PanelledMatrix<S>, JobFault>
-    requires { vec_len texts ≡ 2 }
-    ensures ok { IfOk result (IsExtractOf lists_are.Columns S.arithmetic texts.items) }
-    ensures fault { IfErr result (IsExtractFault lists_are.Columns S.arithmetic texts.items) }
-    ensures unwritten { IfErr result (λ f. f ≢ JobFault.Output) }
-{
-    let (matrix, columns) = read_pair::<S, PlusTimes, R>(rt, alloc, threads, texts)?;
-    columns_of(alloc, &matrix, &columns)
-}
-
-/// Reads a matrix and two lists, and makes the listed rows and columns.
-fn some_part<S: Based + Send + Sync, R: Threads + Sync>(
-    rt: &R,
-    alloc: Global,
-    threads: u32,
-    texts: Vec<Text>,
-) -> Result<PanelledMatrix<S>, JobFault>
-    requires { vec_len texts ≡ 3 }
-    ensures ok { IfOk result (IsExtractOf lists_are.Both S.arithmetic texts.items) }
-    ensures fault { IfErr result (IsExtractFault lists_are.Both S.arithmetic texts.items) }
-    ensures unwritten { IfErr result (λ f. f ≢ JobFault.Output) }
-{
-    let (matrix, rows, columns) = read_with_lists::<S, R>(rt, alloc, threads, texts)?;
-    part_of(alloc, &matrix, &rows, &columns)
-}
-
-/// Reads a matrix and lists, and makes the rows and columns that are listed.
-fn extract_matrix<S: Based + Send + Sync, R: Threads + Sync>(
+/// Reads a matrix over a semiring, and the lists that there are of its rows and of its columns.
+fn read_with_lists<S: Based + Send + Sync, R: Threads + Sync>(
     rt: &R,
     alloc: Global,
     threads: u32,
     lists: Lists,
     texts: Vec<Text>,
-) -> Result<PanelledMatrix<S>, JobFault>
+) -> Result<(Block<S>, Option<Block<PlusTimes>>, Option<Block<PlusTimes>>), JobFault>
     requires { vec_len texts ≡ 1 + list_count_of lists }
-    ensures ok { IfOk result (IsExtractOf lists S.arithmetic texts.items) }
-    ensures fault { IfErr result (IsExtractFault lists S.arithmetic texts.items) }
-    ensures unwritten { IfErr result (λ f. f ≢ JobFault.Output) }
+    ensures ok { IfOk result (λ p. AreWithLists lists S.arithmetic texts.items p.0 p.1 p.2) }
+    ensures fault { IfErr result (IsFirstReadFault (arithmetic_at S.arithmetic plus_times) texts.items) }
 {
-    match lists {
-        Lists::Rows => some_rows::<S, R>(rt, alloc, threads, texts),
-        Lists::Columns => some_columns::<S, R>(rt, alloc, threads, texts),
-        Lists::Both => some_part::<S, R>(rt, alloc, threads, texts),
+    let grid = Grid::single();
+    let (matrix, list, other) = read_beside::<S, PlusTimes, R>(rt, alloc, &grid, threads, texts)?;
+    let (matrix, list) = (matrix.into_block(), list.into_block());
+    match (lists, other) {
+        (Lists::Rows, _) => Ok((matrix, Some(list), None)),
+        (Lists::Columns, _) => Ok((matrix, None, Some(list))),
+        (Lists::Both, Some(columns)) => Ok((matrix, Some(list), Some(columns.into_block()))),
+        (Lists::Both, None) => unreachable!(),
     }
+}
+
+/// Checks that a matrix, if there is one, lists numbers from 1 to a limit. If a place has no such number, the refusal is
+/// `missing`.
+fn check_list(
+    list: &Option<Block<PlusTimes>>,
+    limit: u32,
+    missing: SelectionRefusal,
+) -> Result<(), SelectionRefusal>
+    ensures ok { OnOk result (IsListed limit list.now) }
+    ensures refused { IfErr result (IsListRefusal missing limit list.now) }
+{
+    let Some(column) = list else {
+        return Ok(());
+    };
+    if column.shape().cols() != 1 {
+        return Err(SelectionRefusal::NotColumn);
+    }
+    if is_full(column, limit) {
+        Ok(())
+    } else {
+        Err(missing)
+    }
+}
+
+/// Checks that two matrices list rows and columns in a shape.
+fn check_lists(
+    shape: Shape,
+    rows: &Option<Block<PlusTimes>>,
+    columns: &Option<Block<PlusTimes>>,
+) -> Result<(), SelectionRefusal>
+    ensures ok { OnOk result (AreLists shape rows.now columns.now) }
+    ensures refused { IfErr result (AreListsRefused shape rows.now columns.now) }
+{
+    check_list(rows, shape.rows(), SelectionRefusal::NoRow)?;
+    check_list(columns, shape.cols(), SelectionRefusal::NoColumn)
+}
+
+/// The numbers of a list, if there is one, counted from 0.
+fn numbers_of(
+    alloc: Global,
+    list: &Option<Block<PlusTimes>>,
+    limit: u32,
+) -> Result<Option<Vec<u32>>, AllocError>
+    requires { IsListed limit list.now }
+    ensures numbers { IfOk result (λ v. option_map (λ n. n.items) v ≡ option_map numbers_in list.now) }
+    ensures below { IfOk result (λ v. AreBelow limit (option_map (λ n. n.items) v)) }
+    ensures few { IfOk result (λ v. AreFew (option_map (λ n. n.items) v)) }
+{
+    let Some(column) = list else {
+        return Ok(None);
+    };
+    let numbers = listed(alloc, column, limit)?;
+    Ok(Some(numbers))
+}
+
+/// The listed rows and columns of a block; without a list, all of them.
+fn part_of<S: Semiring>(
+    alloc: Global,
+    block: &Block<S>,
+    rows: &Option<Block<PlusTimes>>,
+    columns: &Option<Block<PlusTimes>>,
+) -> Result<PanelledMatrix<S>, JobFault>
+    ensures ok { IfOk result (IsPartOf S.arithmetic block.now rows.now columns.now) }
+    ensures fault { IfErr result (AreListsFault block.now.shape rows.now columns.now) }
+{
+    let shape = block.shape();
+    check_lists(shape, rows, columns)?;
+    let some_rows = numbers_of(alloc, rows, shape.rows())?;
+    let some_columns = numbers_of(alloc, columns, shape.cols())?;
+    let part = extract(alloc, block, some_rows.as_deref(), some_columns.as_deref())?;
+    Ok(PanelledMatrix::from_block(alloc, part))
 }
 
 /// Reads a matrix over a semiring and lists, and makes the rows and columns that are listed: the answer whose text is theirs.
@@ -172,6 +131,7 @@ pub fn extract_answer<S: Based + Send + Sync, R: Threads + Sync>(
     requires { vec_len texts ≡ 1 + list_count_of lists }
     ensures { IsSelectionAnswered (task_is.Extract lists) S.arithmetic texts.items result }
 {
-    let matrix = extract_matrix::<S, R>(rt, alloc, threads, lists, texts)?;
-    Ok(Answer::Matrix(matrix))
+    let (matrix, rows, columns) = read_with_lists::<S, R>(rt, alloc, threads, lists, texts)?;
+    let part = part_of(alloc, &matrix, &rows, &columns)?;
+    Ok(Answer::Matrix(part))
 }

@@ -6,7 +6,5 @@
 #![tactic(auto)]
 
 mod extract_texts;
-mod list_checks;
-mod list_operands;
 pub mod named_selections;
 mod selection_texts;

@@ -7,12 +7,12 @@ ghost use Rattle.cb_job_selections.specs.SelectionTexts.{IsSelectionAnswered, Is
 use crate::extract_texts::extract_answer;
 use crate::selection_texts::selected_answer;
 use cb_bases::Based;
-use cb_command_line::SelectionTask;
+use cb_command_line::{SelectionTask, over_distributive};
 use cb_job_ends::faults::JobFault;
 use cb_job_ends::sinks::Sink;
 use cb_job_ends::texts::Text;
 use cb_job_output::answers::{Answer, put_answer};
-use cb_semirings::{MaxMin, MinPlus, OrAnd, PlusTimes, SemiringName};
+use cb_semirings::SemiringName;
 use std::alloc::Global;
 use std::thread::Threads;
 
@@ -57,8 +57,7 @@ pub fn put_selection<S: Based + Send + Sync, R: Threads + Sync, K: Sink>(
     put_answer(rt, alloc, threads, answer, out)
 }
 
-/// Writes the same as [`put_selection`], over the distributive semiring of a name. A program that needs no others is compiled
-/// in less than half the time.
+/// Writes the same as [`put_selection`], over the distributive semiring of a name.
 pub fn execute_distributive_selection<R: Threads + Sync, K: Sink>(
     rt: &R,
     alloc: Global,
@@ -73,15 +72,8 @@ pub fn execute_distributive_selection<R: Threads + Sync, K: Sink>(
     requires works { K.has_failed out.old ≡ false }
     ensures { IsSelectionEnd task (arithmetic_of semiring) texts.items (K.written out.old) (K.written out.new) (K.has_failed out.new) result }
 {
-    match semiring {
-        SemiringName::PlusTimes => {
-            put_selection::<PlusTimes, R, K>(rt, alloc, threads, task, texts, out)
-        }
-        SemiringName::MinPlus => {
-            put_selection::<MinPlus, R, K>(rt, alloc, threads, task, texts, out)
-        }
-        SemiringName::OrAnd => put_selection::<OrAnd, R, K>(rt, alloc, threads, task, texts, out),
-        SemiringName::MaxMin => put_selection::<MaxMin, R, K>(rt, alloc, threads, task, texts, out),
-        _ => unreachable!(),
-    }
+    over_distributive!(
+        semiring,
+        put_selection::<_, R, K>(rt, alloc, threads, task, texts, out)
+    )
 }

@@ -45,12 +45,8 @@ of_search task s source engine side texts a (operation_is.Failed said) refused r
 
 -- it isn't that of a sink
 not_output : (fault : OperationFault) → fault_of_operation fault ≡ Output → ⊥
-not_output (operation_is.Refused refusal) h = cc
 not_output (operation_is.Failed fault_is.Memory) h = cc
-not_output (operation_is.Failed (fault_is.NotStarted rank)) h = cc
-not_output (operation_is.Failed (fault_is.Gone rank)) h = cc
-not_output (operation_is.Failed fault_is.TraceTorn) h = cc
-not_output (operation_is.Failed (fault_is.Lost rank refusals)) h = cc
+not_output _ h = cc
 
 -- the end of a task whose search fails
 pub end_of_search : {S : Type 0} {IsText : List ℕ → Type 0} (task : GraphTask) (s : Arithmetic) (source : ℕ) (engine : Engine) (side : ℕ) (texts : List (List ℕ)) (graph : Distributed) (fault : OperationFault) (f : JobFault)
@@ -73,13 +69,4 @@ pub without_ranks : {S : Type 0} {IsText : List ℕ → Type 0} (engine : Engine
     → IsAnswered {S = S} min_plus IsText (IsGraphFault task texts) result → IsAnswered {S = S} min_plus IsText (IsGraphFaultBy (Some engine) side task texts) result
 without_ranks engine side (Levels source) texts result l d h = absurd (l source refl)
 without_ranks engine side (Distances source) texts result l d h = absurd (d source refl)
-without_ranks engine side LevelsFrom texts result l d h = h
-without_ranks engine side DistancesFrom texts result l d h = h
-without_ranks engine side LevelsGiven texts result l d h = h
-without_ranks engine side DistancesGiven texts result l d h = h
-without_ranks engine side (Parents source) texts result l d h = h
-without_ranks engine side Components texts result l d h = h
-without_ranks engine side Triangles texts result l d h = h
-without_ranks engine side TriangleCounts texts result l d h = h
-without_ranks engine side RowDegrees texts result l d h = h
-without_ranks engine side ColumnDegrees texts result l d h = h
+without_ranks engine side _ texts result l d h = h

@@ -1,10 +1,7 @@
 //! Operations on the matrices of texts, by ranks or without any.
-ghost use Rattle.std.specs.Prelude.{◌≡◌, ◌≢◌, length, vec_len, false, IfOk, IfErr};
-ghost use Rattle.cb_operations.specs.Operands.{list_of};
+ghost use Rattle.std.specs.Prelude.{◌≡◌, ◌≢◌, vec_len, false, IfOk, IfErr};
 ghost use Rattle.cb_operations.specs.OperationAnswers.{operand_count_of};
-ghost use Rattle.cb_rank_operations.specs.Outcomes.{LieOver, wholes};
 ghost use Rattle.cb_semirings.specs.Names.{arithmetic_of};
-ghost use Rattle.cb_job_inputs.specs.Inputs.{AreMatrices, IsReadFault};
 ghost use Rattle.cb_jobs.specs.Answers.{IsOutcomeOver, IsRanksFaultOver};
 ghost use Rattle.cb_jobs.specs.JobEnds.{IsOperationAnswered, IsOperationEnd, IsRanksAnswered};
 
@@ -15,11 +12,10 @@ use cb_command_line::Job;
 use cb_job_ends::faults::JobFault;
 use cb_job_ends::sinks::Sink;
 use cb_job_ends::texts::Text;
-use cb_job_inputs::inputs::{read_one, read_three, read_two};
+use cb_job_inputs::operands::read_operands;
 use cb_job_operations::operation_answers::operation_answer;
 use cb_job_output::answers::{Answer, put_answer};
-use cb_layout::DistributedMatrix;
-use cb_operations::{Operands, Operation};
+use cb_operations::Operation;
 use cb_rank_engines::Outcome;
 use cb_rank_operations::run;
 use cb_semirings::{SemiringName, over_semiring};
@@ -27,35 +23,8 @@ use std::alloc::Global;
 use std::sync::Wait;
 use std::thread::Threads;
 
-/// Reads the operands of an operation into the blocks of the ranks' grid.
-fn read_operands<S: Based + Send + Sync, R: Threads + Sync>(
-    rt: &R,
-    alloc: Global,
-    ranks: &Ranks<'_>,
-    operation: Operation,
-    texts: Vec<Text>,
-) -> Result<Operands<DistributedMatrix<S>>, JobFault>
-    requires { vec_len texts ≡ operand_count_of operation }
-    ensures count { IfOk result (λ o. operand_count_of operation ≡ length (list_of o)) }
-    ensures ok { IfOk result (λ o. AreMatrices S.arithmetic texts.items (wholes (list_of o))) }
-    ensures sides { IfOk result (LieOver ranks.now.grid.side) }
-    ensures fault { IfErr result (IsReadFault S.arithmetic texts.items) }
-{
-    let (grid, threads) = (&ranks.grid, ranks.threads);
-    match operation.operand_count() {
-        1 => Ok(Operands::One(read_one(rt, alloc, grid, threads, texts)?)),
-        2 => {
-            let (left, right) = read_two(rt, alloc, grid, threads, texts)?;
-            Ok(Operands::Two(left, right))
-        }
-        _ => {
-            let (left, right, mask) = read_three(rt, alloc, grid, threads, texts)?;
-            Ok(Operands::Three(left, right, mask))
-        }
-    }
-}
-
 /// Reads the operands of an operation, and computes it by ranks.
+#[tactic(auto, using(crate::proofs::GridOperands::lie_over))]
 fn outcome_of<S: Based + Send + Sync, R: Threads + Wait + Sync>(
     rt: &R,
     alloc: Global,
@@ -68,7 +37,7 @@ fn outcome_of<S: Based + Send + Sync, R: Threads + Wait + Sync>(
     ensures fault { IfErr result (IsRanksFaultOver operation S.arithmetic ranks.now.engine ranks.now.grid.side texts.items) }
     ensures unwritten { IfErr result (λ f. f ≢ JobFault.Output) }
 {
-    let operands = read_operands::<S, R>(rt, alloc, ranks, operation, texts)?;
+    let operands = read_operands::<S, R>(rt, alloc, &ranks.grid, ranks.threads, texts)?;
     match run(rt, alloc, ranks.engine, &ranks.grid, operation, operands) {
         Ok(outcome) => Ok(outcome),
         Err(fault) => Err(job_fault(fault)),

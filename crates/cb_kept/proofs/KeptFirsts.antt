@@ -15,11 +15,11 @@ use Rattle.cb_kept.specs.declared.faults.Fault.{Fault}
 use Rattle.cb_kept.specs.declared.faults.Fault.TheVariants.{Mixed}
 use Rattle.cb_kept.specs.declared.kept.Kept.{Kept}
 use Rattle.cb_operations.specs.Operands.{lent_in}
-use Rattle.cb_shares.specs.Shares.{panel}
 use Rattle.cb_kept.specs.Answers.{IsAnswer}
-use Rattle.cb_kept.specs.Kept.{Keeps, semiring_of, semiring_in, AreOver}
+use Rattle.cb_kept.specs.Kept.{semiring_of, semiring_in, AreOver}
+use Rattle.cb_kept.specs.KeptShares.{KeepsColumns}
 use Rattle.cb_kept.specs.CallsOver.{IsCallOverCommon}
-use Rattle.cb_kept.specs.KeptUpdates.{HaveSemiring, operands_of, one_shape_faults, update_faults, update_of, IsUpdate, IsUpdateOfColumns}
+use Rattle.cb_kept.specs.KeptUpdates.{HaveSemiring, operands_of, one_shape_faults, update_faults, update_of, IsUpdate}
 use Rattle.cb_kept.specs.Refusals.{Unless}
 use Rattle.cb_kept.proofs.Firsts.{same_answer}
 
@@ -86,13 +86,8 @@ over_update old new (Some mask) h =
     let P : Kept → Type 0 = λ (k : Kept). semiring_of k ≡ semiring_of old in
     All-cons P old (new ∷ mask ∷ []) refl (All-cons P new (mask ∷ []) h.0 (All-cons P mask [] h.1 (All-nil P)))
 
-module _ (how : WriteBack) (old new : Kept) where
-  pub of_update : (mask : Option Kept) (r : Result Kept Fault) → IsCallOverCommon (λ s ms. one_shape_faults ms) (λ name s ms. Keeps name (update_of how s ms)) (operands_of old new mask) r → IsUpdate (Some how) old new mask r
+module _ (how : WriteBack) (first end : ℕ) (old new : Kept) where
+  pub of_update : (mask : Option Kept) (r : Result Kept Fault) → IsCallOverCommon (λ s ms. one_shape_faults ms) (λ name s ms. KeepsColumns name (update_of how s ms) first end) (operands_of old new mask) r → IsUpdate (Some how) first end old new mask r
   unfolding update_faults
   of_update None r h = same_answer Mixed _ _ r (update_over old new None) (over_update old new None) h
   of_update (Some mask) r h = same_answer Mixed _ _ r (update_over old new (Some mask)) (over_update old new (Some mask)) h
-
-  pub of_update_columns : (first end : ℕ) (mask : Option Kept) (r : Result Kept Fault) → IsCallOverCommon (λ s ms. one_shape_faults ms) (λ name s ms. Keeps name (panel (update_of how s ms) first end)) (operands_of old new mask) r → IsUpdateOfColumns (Some how) first end old new mask r
-  unfolding update_faults
-  of_update_columns first end None r h = same_answer Mixed _ _ r (update_over old new None) (over_update old new None) h
-  of_update_columns first end (Some mask) r h = same_answer Mixed _ _ r (update_over old new (Some mask)) (over_update old new (Some mask)) h

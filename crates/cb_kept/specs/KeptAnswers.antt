@@ -1,11 +1,9 @@
 -- What a call on kept matrices returns.
-use Rattle.std.specs.Prelude.{◌≡◌, ℕ, ◌==◌, cond, List, length, map, Option, Some, None, Result}
-use Rattle.cb_matrix.specs.declared.passing.Test.TheVariants.{Below, Above, Equal}
+use Rattle.std.specs.Prelude.{◌≡◌, ℕ, List, length, map, Option, Some, None, Result}
 use Rattle.cb_semirings.specs.Arithmetic.{Arithmetic}
 use Rattle.cb_semirings.specs.declared.names.SemiringName.{SemiringName}
 use Rattle.cb_semirings.specs.Names.{arithmetic_of, numbered}
 use Rattle.cb_operations.specs.declared.operations.Operation.{Operation}
-use Rattle.cb_operations.specs.declared.operations.Operation.TheVariants.{Prune}
 use Rattle.cb_operations.specs.OperationAnswers.{answer_of}
 use Rattle.cb_kept.specs.declared.faults.Fault.{Fault}
 use Rattle.cb_kept.specs.declared.faults.Fault.TheVariants.{Test, Mixed}
@@ -14,25 +12,23 @@ use Rattle.cb_kept.specs.declared.kept_values.Summary.{Summary}
 use Rattle.cb_lists.specs.declared.lists.Columns.{Columns}
 use Rattle.cb_lists.specs.Lists.{matrix_of}
 use Rattle.cb_kept.specs.Kept.{Keeps, semiring_of, semiring_in, matrix_in, AreOver}
+use Rattle.cb_kept.specs.KeptShares.{KeepsColumns}
 use Rattle.cb_kept.specs.CallsOver.{shape_faults}
 use Rattle.cb_kept.specs.Refusals.{Unless, over}
 use Rattle.cb_kept.specs.Answers.{IsAnswer}
 
--- the prune by the test of a number, 0 to 2, with its bound
-abbrev pub prune_of : ℕ → ℕ → Option Operation
-prune_of n bound = cond (n == 0) (Some (Prune (Below bound))) (cond (n == 1) (Some (Prune (Above bound))) (cond (n == 2) (Some (Prune (Equal bound))) None))
-
--- the faults of an operation on kept matrices: no test has the number of a prune, their semirings differ, or their shapes
+-- the faults of an operation on kept matrices: no operation has the number, their semirings differ, or their shapes
 -- don't agree
 unfoldable pub kept_faults : Option Operation → List Kept → Fault → Type 0
 kept_faults None ks = λ f. f ≡ Test
 kept_faults (Some operation) ks =
     Unless (AreOver (semiring_in ks) ks) Mixed (shape_faults operation (map matrix_in ks))
 
--- the kept result of an operation on kept matrices, over their semiring
-abbrev pub HasMadeKept : Option Operation → List Kept → Kept → Type 0
-HasMadeKept None ks k = ⊥
-HasMadeKept (Some operation) ks k = Keeps (semiring_in ks) (answer_of operation (arithmetic_of (semiring_in ks)) (map matrix_in ks)) k
+-- the columns of a range of the result of an operation on kept matrices, over their semiring
+abbrev pub HasMade : Option Operation → ℕ → ℕ → List Kept → Kept → Type 0
+HasMade None first end ks k = ⊥
+HasMade (Some operation) first end ks k =
+    KeepsColumns (semiring_in ks) (answer_of operation (arithmetic_of (semiring_in ks)) (map matrix_in ks)) first end k
 
 -- what holds over the semiring of a number, by its name; nothing does over none
 abbrev pub OverName : Option SemiringName → (SemiringName → Type 0) → Type 0

@@ -1,43 +1,17 @@
--- A product of two kept matrices in panels, each with a range of its columns, also under a mask or outside it; and panels that
--- are joined.
-use Rattle.std.specs.Prelude.{◌≡◌, ℕ, Result, OnOk, OnErr}
+-- Panels of a kept matrix, each with a range of its columns, that are joined.
+use Rattle.std.specs.Prelude.{◌≡◌, Result, OnOk, OnErr}
 use Rattle.cb_semirings.specs.declared.names.SemiringName.{SemiringName}
 use Rattle.cb_semirings.specs.Names.{arithmetic_of}
 use Rattle.cb_semirings.specs.Arithmetic.{Arithmetic}
 use Rattle.cb_matrix.specs.Sparse.{Sparse}
-use Rattle.cb_matrix.specs.Values.{empty_matrix, product}
-use Rattle.cb_matrix.specs.Operations.{masked}
-use Rattle.cb_operations.specs.Selected.{excluded}
+use Rattle.cb_matrix.specs.Values.{empty_matrix}
 use Rattle.cb_dcsc.specs.Columns.{with_entries}
-use Rattle.cb_shares.specs.Shares.{panel, AreBefore, JoinsPanels}
+use Rattle.cb_shares.specs.Shares.{AreBefore, JoinsPanels}
 use Rattle.cb_kept.specs.declared.faults.Fault.{Fault}
 use Rattle.cb_kept.specs.declared.faults.Fault.TheVariants.{Order, Shapes, Mixed}
-use Rattle.cb_kept.specs.declared.kept_masked_panels.Allowed.{Allowed}
-use Rattle.cb_kept.specs.declared.kept_masked_panels.Allowed.TheVariants.{Entries, Others}
 use Rattle.cb_kept.specs.declared.kept.Kept.{Kept}
 use Rattle.cb_kept.specs.Kept.{Keeps, semiring_of, matrix_in}
 use Rattle.cb_kept.specs.Refusals.{Unless, IsMemory}
-
--- the faults of two factors: their semirings differ, or the first doesn't have as many columns as the second has rows
-unfoldable pub factor_faults : Kept → Kept → Fault → Type 0
-factor_faults a b = Unless (semiring_of b ≡ semiring_of a) Mixed (Unless ((matrix_in a).shape.cols ≡ (matrix_in b).shape.rows) Shapes IsMemory)
-
--- the panel of a product of two kept matrices, over the semiring of the first
-abbrev pub IsKeptPanel : ℕ → ℕ → Kept → Kept → Kept → Type 0
-IsKeptPanel first end a b made = Keeps (semiring_of a) (panel (product (arithmetic_of (semiring_of a)) (matrix_in a) (matrix_in b)) first end) made
-
--- what a mask allows of a matrix
-abbrev pub allowed_by : Allowed → Arithmetic → Sparse → Sparse → Sparse
-allowed_by Entries s a m = masked s a m
-allowed_by Others s a m = excluded s a m
-
--- the panel of a product at the places that a mask allows, over a semiring
-abbrev pub masked_panel_in : Allowed → ℕ → ℕ → Arithmetic → Kept → Kept → Kept → Sparse
-masked_panel_in allowed first end s a b m = panel (allowed_by allowed s (product s (matrix_in a) (matrix_in b)) (matrix_in m)) first end
-
--- the same, kept over the semiring of a
-abbrev pub IsKeptMaskedPanel : Allowed → ℕ → ℕ → Kept → Kept → Kept → Kept → Type 0
-IsKeptMaskedPanel allowed first end a b m made = Keeps (semiring_of a) (masked_panel_in allowed first end (arithmetic_of (semiring_of a)) a b m) made
 
 -- the faults of two panels over a semiring: their shapes differ, or a column of the second isn't after all of the first
 abbrev pub panel_faults : Sparse → Sparse → Fault → Type 0

@@ -1,21 +1,29 @@
--- Some columns of the result of an operation on kept matrices, and where ranges of columns end.
-use Rattle.std.specs.Prelude.{◌≡◌, ℕ, List, map, Option, Some, None}
-use Rattle.cb_semirings.specs.Names.{arithmetic_of}
-use Rattle.cb_operations.specs.declared.operations.Operation.{Operation}
-use Rattle.cb_operations.specs.OperationAnswers.{answer_of}
+-- Some columns of the result of a call on kept matrices, and where ranges of columns end.
+use Rattle.std.specs.Prelude.{◌≡◌, ℕ, ◌≤◌}
+use Rattle.cb_semirings.specs.declared.names.SemiringName.{SemiringName}
+use Rattle.cb_matrix.specs.Sparse.{Sparse}
 use Rattle.cb_shares.specs.Shares.{panel}
 use Rattle.cb_kept.specs.declared.faults.Fault.{Fault}
-use Rattle.cb_kept.specs.declared.faults.Fault.TheVariants.{Mixed}
+use Rattle.cb_kept.specs.declared.faults.Fault.TheVariants.{Mixed, Shapes}
 use Rattle.cb_kept.specs.declared.kept.Kept.{Kept}
-use Rattle.cb_kept.specs.Kept.{Keeps, semiring_of, semiring_in, matrix_in}
+use Rattle.cb_kept.specs.Kept.{Keeps, semiring_of, matrix_in}
 use Rattle.cb_kept.specs.Refusals.{Unless, IsMemory}
 
--- the columns of a range of the result of an operation on kept matrices, over their semiring
-abbrev pub HasMadeColumns : Option Operation → ℕ → ℕ → List Kept → Kept → Type 0
-HasMadeColumns None first end ks k = ⊥
-HasMadeColumns (Some operation) first end ks k =
-    Keeps (semiring_in ks) (panel (answer_of operation (arithmetic_of (semiring_in ks)) (map matrix_in ks)) first end) k
+-- the range is that of all columns, where there are so many
+pub record IsWhole (first end cols : ℕ) : Type 0 where
+  pub from_start : first ≡ 0
+  pub to_end : cols ≤ end
 
+-- the columns of a range of a matrix, kept over the semiring of a name; the matrix itself, if these are all its columns
+pub record KeepsColumns (name : SemiringName) (whole : Sparse) (first end : ℕ) (kept : Kept) : Type 0 where
+  pub columns : Keeps name (panel whole first end) kept
+  pub all : IsWhole first end whole.shape.cols → Keeps name whole kept
+
+-- ---- where ranges of columns end
 -- the fault of two matrices whose columns are divided: their semirings differ
 unfoldable pub pair_faults : Kept → Kept → Fault → Type 0
 pair_faults a b = Unless (semiring_of b ≡ semiring_of a) Mixed IsMemory
+
+-- the faults of two factors: their semirings differ, or the first doesn't have as many columns as the second has rows
+unfoldable pub factor_faults : Kept → Kept → Fault → Type 0
+factor_faults a b = Unless (semiring_of b ≡ semiring_of a) Mixed (Unless ((matrix_in a).shape.cols ≡ (matrix_in b).shape.rows) Shapes IsMemory)

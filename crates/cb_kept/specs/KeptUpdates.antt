@@ -7,11 +7,11 @@ use Rattle.cb_matrix.specs.Sparse.{Sparse, Extent}
 use Rattle.cb_selections.specs.declared.updates.WriteBack.{WriteBack}
 use Rattle.cb_operations.specs.OperationAnswers.{matrix_at}
 use Rattle.cb_selections.specs.Updates.{updated}
-use Rattle.cb_shares.specs.Shares.{panel}
 use Rattle.cb_kept.specs.declared.faults.Fault.{Fault}
 use Rattle.cb_kept.specs.declared.faults.Fault.TheVariants.{Test, Shapes, Mixed}
 use Rattle.cb_kept.specs.declared.kept.Kept.{Kept}
-use Rattle.cb_kept.specs.Kept.{Keeps, semiring_of, matrix_in}
+use Rattle.cb_kept.specs.Kept.{semiring_of, matrix_in}
+use Rattle.cb_kept.specs.KeptShares.{KeepsColumns}
 use Rattle.cb_kept.specs.Refusals.{Unless, IsMemory}
 use Rattle.cb_kept.specs.Answers.{IsAnswer}
 
@@ -61,20 +61,12 @@ update_faults (Some how) old new mask =
 abbrev pub updated_in : Arithmetic → WriteBack → Kept → Kept → Option Kept → Sparse
 updated_in s how old new mask = updated s how (option_map matrix_in mask) (matrix_in old) (matrix_in new)
 
--- the same, kept over the semiring of the old matrix
-abbrev pub HasUpdated : Option WriteBack → Kept → Kept → Option Kept → Kept → Type 0
-HasUpdated None old new mask made = ⊥
-HasUpdated (Some how) old new mask made = Keeps (semiring_of old) (updated_in (arithmetic_of (semiring_of old)) how old new mask) made
+-- the columns of a range of it, kept over the semiring of the old matrix
+abbrev pub HasUpdated : Option WriteBack → ℕ → ℕ → Kept → Kept → Option Kept → Kept → Type 0
+HasUpdated None first end old new mask made = ⊥
+HasUpdated (Some how) first end old new mask made =
+    KeepsColumns (semiring_of old) (updated_in (arithmetic_of (semiring_of old)) how old new mask) first end made
 
--- the columns of a range of it
-abbrev pub HasUpdatedColumns : Option WriteBack → ℕ → ℕ → Kept → Kept → Option Kept → Kept → Type 0
-HasUpdatedColumns None first end old new mask made = ⊥
-HasUpdatedColumns (Some how) first end old new mask made =
-    Keeps (semiring_of old) (panel (updated_in (arithmetic_of (semiring_of old)) how old new mask) first end) made
-
--- what an update returns, and one of the columns of a range
-abbrev pub IsUpdate : Option WriteBack → Kept → Kept → Option Kept → Result Kept Fault → Type 0
-IsUpdate how old new mask = IsAnswer (update_faults how old new mask) (HasUpdated how old new mask)
-
-abbrev pub IsUpdateOfColumns : Option WriteBack → ℕ → ℕ → Kept → Kept → Option Kept → Result Kept Fault → Type 0
-IsUpdateOfColumns how first end old new mask = IsAnswer (update_faults how old new mask) (HasUpdatedColumns how first end old new mask)
+-- what an update returns
+abbrev pub IsUpdate : Option WriteBack → ℕ → ℕ → Kept → Kept → Option Kept → Result Kept Fault → Type 0
+IsUpdate how first end old new mask = IsAnswer (update_faults how old new mask) (HasUpdated how first end old new mask)

@@ -11,7 +11,7 @@ use std::alloc::AllocError;
 pub enum Fault {
     /// No semiring has the number.
     Semiring,
-    /// No test, region, function, update, power or task on a graph has the number.
+    /// No operation, selection, update or task on a graph has the number, or a power has no factors.
     Test,
     /// Kept matrices are over different semirings, or a graph isn't over the semiring of the call.
     Mixed,

@@ -4,6 +4,7 @@
 ghost use Rattle.std.specs.Prelude.{◌≡◌, ◌≢◌, length, Some, IfSome, IfNone};
 ghost use Rattle.cb_semirings.specs.Names.{numbered};
 ghost use Rattle.cb_semirings.specs.declared.names.SemiringName.TheVariants as name_is;
+ghost use Rattle.cb_matrix.specs.Sparse.{IsMatrix};
 ghost use Rattle.cb_kept.specs.Kept.{Keeps, nothing, semiring_of, matrix_in};
 
 use cb_dcsc::Block;
@@ -161,8 +162,10 @@ fn taken<S: Semiring>(alloc: Global, matrix: &mut PanelledMatrix<S>) -> Panelled
 
 /// Keeps a block, as a matrix of one panel.
 pub(crate) fn keep_block<S: Keep>(alloc: Global, block: Block<S>) -> Kept
-    ensures { Keeps S.name block result }
+    ensures keeps { Keeps S.name block result }
+    ensures matrix { IsMatrix S.arithmetic block }
 {
+    let _shape = block.shape();
     let mut matrix = PanelledMatrix::from_block(alloc, block);
     S::keep(alloc, &mut matrix)
 }

@@ -2,7 +2,7 @@
 ghost use Rattle.std.specs.Prelude.{◌≡◌, ◌↔◌, ◌<◌, IsTrue, length, All, IfSome, IfNone, IfOk, IfErr};
 ghost use Rattle.std.specs.Borrow.{Bor};
 ghost use Rattle.cb_operations.specs.Operands.{lent_in};
-ghost use Rattle.cb_operations.specs.OperationAnswers.{operand_count_of, Agree, shapes_in};
+ghost use Rattle.cb_operations.specs.OperationAnswers.{operand_count_of, Agree, IsShapeOfAnswers, shapes_in};
 ghost use Rattle.cb_kept.specs.declared.kept.Kept.{Kept as KeptValue};
 ghost use Rattle.cb_kept.specs.Answers.{NoFault};
 ghost use Rattle.cb_kept.specs.Kept.{AreOver, semiring_of, semiring_in};
@@ -11,6 +11,7 @@ ghost use Rattle.cb_kept.specs.CallsOver.{shape_faults};
 use crate::faults::Fault;
 use crate::kept::Kept;
 use cb_layout::PanelledMatrix;
+use cb_matrix::Shape;
 use cb_operations::Operation;
 use cb_semirings::{Semiring, SemiringName};
 
@@ -47,13 +48,14 @@ pub(crate) fn one_semiring(operands: &[&Kept]) -> Option<SemiringName>
     }
 }
 
-/// Refuses matrices whose shapes don't agree.
+/// The shape of the result of an operation. Refuses matrices whose shapes don't agree.
 pub(crate) fn check_shapes<S: Semiring>(
     operation: Operation,
     operands: &[&PanelledMatrix<S>],
-) -> Result<(), Fault>
+) -> Result<Shape, Fault>
     requires { length operands.now ≡ operand_count_of operation }
     ensures agree { IfOk result (λ _. Agree operation (shapes_in (lent_in operands.now))) }
+    ensures shape { IfOk result (IsShapeOfAnswers operation (shapes_in (lent_in operands.now))) }
     ensures none { IfOk result (λ _. NoFault (shape_faults operation (lent_in operands.now))) }
     ensures fault { IfErr result (shape_faults operation (lent_in operands.now)) }
 {
@@ -64,7 +66,7 @@ pub(crate) fn check_shapes<S: Semiring>(
         _ => unreachable!(),
     };
     match shape {
-        Some(_shape) => Ok(()),
+        Some(shape) => Ok(shape),
         None => Err(Fault::Shapes),
     }
 }

@@ -1,5 +1,5 @@
 //! A kept matrix with its transpose, which calls use that need it.
-ghost use Rattle.std.specs.Prelude.{◌≡◌, IfErr, IfSome, OnErr, OnOk};
+ghost use Rattle.std.specs.Prelude.{◌≡◌, IfErr, IfOk, IfSome, OnErr, OnOk};
 ghost use Rattle.cb_matrix.specs.Values.{empty_matrix};
 ghost use Rattle.cb_kept.specs.Answers.{IsAnswer};
 ghost use Rattle.cb_kept.specs.Kept.{IsTransposeOf, Keeps, matrix_in, nothing, semiring_of};
@@ -8,7 +8,7 @@ ghost use Rattle.cb_kept.specs.Refusals.{IsMemory};
 
 use crate::faults::Fault;
 use crate::kept::Kept;
-use crate::kept_operations::operate;
+use crate::kept_operations::kept_operation;
 use crate::kept_panels::join_alone;
 use cb_operations::Operation;
 use std::alloc::Global;
@@ -18,19 +18,33 @@ use std::marker::Model;
 #[derive(Drop)]
 pub struct KeptMatrix {
     matrix: Kept,
-    turned: Option<Kept>,
+    turned: Option<Box<Kept>>,
 }
 
 impl Model for KeptMatrix {
     ghost use Rattle.std.specs.Prelude.{IfSome};
     ghost use Rattle.cb_kept.specs.declared.kept.Kept.{Kept};
+    ghost use Rattle.std.specs.Box.{box_value};
     ghost use Rattle.cb_kept.specs.Kept.{IsTransposeOf};
 
     ghost Value = { Kept };
 
     ghost view = { λ k. k.matrix };
 
-    ghost invariant = { λ k. IfSome k.turned (IsTransposeOf k.matrix) };
+    ghost invariant = { λ k. IfSome k.turned (λ turned. IsTransposeOf k.matrix (box_value turned)) };
+}
+
+/// The transpose of a kept matrix.
+fn transposed(alloc: Global, matrix: &Kept) -> Result<Kept, Fault>
+    ensures ok { IfOk result (IsTransposeOf matrix.now) }
+    ensures fault { IfErr result IsMemory }
+{
+    let columns = matrix.shape().rows();
+    // A transpose has no other fault.
+    let Ok(turned) = kept_operation(alloc, Some(Operation::Transpose), &[matrix], 0, columns) else {
+        return Err(Fault::Memory);
+    };
+    Ok(turned)
 }
 
 impl KeptMatrix {
@@ -55,7 +69,10 @@ impl KeptMatrix {
     pub fn turned(&self) -> Option<&Kept>
         ensures { IfSome result (λ turned. IsTransposeOf self.now turned.now) }
     {
-        self.turned.as_ref()
+        match &self.turned {
+            Some(turned) => Some(turned),
+            None => None,
+        }
     }
 
     /// Keeps the transpose, unless it is kept already. Searches from sources then need no transpose of their own. It takes
@@ -65,8 +82,8 @@ impl KeptMatrix {
         ensures fault { IfErr result IsMemory }
     {
         if self.turned.is_none() {
-            // A transpose has no other fault.
-            let Ok(turned) = operate(alloc, Some(Operation::Transpose), &[&self.matrix]) else {
+            let turned = transposed(alloc, &self.matrix)?;
+            let Ok(turned) = Box::new(alloc, turned) else {
                 return Err(Fault::Memory);
             };
             self.turned = Some(turned);

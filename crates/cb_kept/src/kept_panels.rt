@@ -1,85 +1,20 @@
-//! Products of two kept matrices in panels, for threads of a program in another language: where the columns are divided,
-//! the panel of a range of columns, and panels that are joined.
+//! Panels of a kept matrix, each with a range of its columns, that are joined.
 ghost use Rattle.std.specs.Prelude.{◌≡◌, IfOk, IfErr, OnOk, OnErr};
 ghost use Rattle.cb_semirings.specs.Names.{arithmetic_of};
 ghost use Rattle.cb_matrix.specs.Values.{empty_matrix};
 ghost use Rattle.cb_dcsc.specs.Columns.{with_entries};
-ghost use Rattle.cb_shares.specs.Shares.{AreBefore, AreEnds, JoinsPanels};
+ghost use Rattle.cb_shares.specs.Shares.{AreBefore, JoinsPanels};
 ghost use Rattle.cb_kept.specs.Answers.{IsAnswer, NoFault};
 ghost use Rattle.cb_kept.specs.Kept.{Keeps, semiring_of, matrix_in};
-ghost use Rattle.cb_kept.specs.KeptPanels.{factor_faults, panel_faults, join_faults, IsJoin, IsKeptJoin, IsKeptPanel};
+ghost use Rattle.cb_kept.specs.KeptPanels.{panel_faults, join_faults, IsJoin, IsKeptJoin};
 
 use crate::faults::Fault;
-use crate::kept::{Keep, Kept, keep_block};
-use crate::kept_calls::{KeptCall, kept_call, panels_in};
-use crate::kept_checks::check_shapes;
-use crate::kept_shares::kept_columns;
+use crate::kept::{Keep, Kept};
+use crate::kept_calls::panels_in;
 use cb_layout::PanelledMatrix;
-use cb_operations::Operation;
-use cb_product::LEAST_PRODUCTS;
 use cb_semirings::{Semiring, SemiringName, over_semiring};
-use cb_shares::{are_before, ends_of, join};
+use cb_shares::{are_before, join};
 use std::alloc::{AllocError, Global};
-
-/// Where each of `count` ranges of a product's columns ends.
-#[derive(Drop)]
-struct ProductEnds {
-    count: usize,
-}
-
-impl KeptCall for ProductEnds {
-    ghost use Rattle.std.specs.Prelude.{◌≡◌};
-    ghost use Rattle.cb_operations.specs.declared.operations.Operation.TheVariants.{Multiply};
-    ghost use Rattle.cb_operations.specs.OperationAnswers.{matrix_at};
-    ghost use Rattle.cb_shares.specs.Shares.{AreEnds};
-    ghost use Rattle.cb_kept.specs.CallsOver.{shape_faults};
-
-    type Answer = Vec<u32>;
-
-    ghost takes = { λ _ n. n ≡ 2 };
-
-    ghost faults = { λ _ s ms. shape_faults Multiply ms };
-
-    ghost gives = { λ c name s ms ends. AreEnds c.count (matrix_at ms 1).shape.cols ends.items };
-
-    fn over<S: Keep>(
-        &self,
-        alloc: Global,
-        operands: &[&PanelledMatrix<S>],
-    ) -> Result<Vec<u32>, Fault> {
-        check_shapes(Operation::Multiply, operands)?;
-        let [a, b] = operands else { unreachable!() };
-        let a = a.whole()?;
-        let b = b.whole()?;
-        let ends = ends_of(alloc, a.block(), b.block(), self.count, LEAST_PRODUCTS)?;
-        Ok(ends)
-    }
-}
-
-/// Returns where each of `count` ranges of a product's columns ends. All ranges take about the same number of products of
-/// two values, and about [`LEAST_PRODUCTS`] or more: ranges that are left over have no columns. Costs an index of the left
-/// matrix's columns, and a pass over the right matrix's entries.
-#[tactic(auto, using(crate::proofs::KeptFirsts::of_pair), unfolding(crate::specs::KeptPanels::factor_faults))]
-pub fn kept_ends(alloc: Global, left: &Kept, right: &Kept, count: usize) -> Result<Vec<u32>, Fault>
-    ensures { IsAnswer (factor_faults left.now right.now) (λ ends. AreEnds count (matrix_in right.now).shape.cols ends.items) result }
-{
-    kept_call(alloc, &ProductEnds { count }, &[left, right])
-}
-
-/// Keeps the product of a matrix and the columns of another from `first` up to, but not including, `end`, in the shape of the
-/// whole product. Costs an index of the left matrix's columns, and the products of these columns.
-#[tactic(auto, using(crate::proofs::KeptFirsts::of_pair), unfolding(crate::specs::KeptPanels::factor_faults, crate::specs::KeptAnswers::kept_faults))]
-pub fn kept_panel(
-    alloc: Global,
-    left: &Kept,
-    right: &Kept,
-    first: u32,
-    end: u32,
-) -> Result<Kept, Fault>
-    ensures { IsAnswer (factor_faults left.now right.now) (IsKeptPanel first end left.now right.now) result }
-{
-    kept_columns(alloc, Some(Operation::Multiply), &[left, right], first, end)
-}
 
 /// Refuses two matrices of different shapes, and columns that aren't after one another.
 fn check_join<S: Semiring>(front: &PanelledMatrix<S>, back: &PanelledMatrix<S>) -> Result<(), Fault>

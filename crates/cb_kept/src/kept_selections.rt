@@ -1,27 +1,23 @@
-//! Selections from kept matrices, whose result is kept, and some columns of it; rows and columns by their numbers; and the sum
-//! of all values.
+//! Selections from kept matrices, whose result is kept, whole or some columns of it; and rows and columns by their numbers.
 ghost use Rattle.std.specs.Prelude.{◌≡◌, ◌↔◌, length, IsTrue, IfSome, option_copied, IfOk, IfErr};
-ghost use Rattle.cb_semirings.specs.Names.{arithmetic_of};
-ghost use Rattle.cb_reshape.specs.Sums.{matrix_total};
 ghost use Rattle.cb_operations.specs.Operands.{lent_in};
 ghost use Rattle.cb_operations.specs.OperationAnswers.{shapes_in};
 ghost use Rattle.cb_operations.specs.SelectionAnswers.{answer_of, operand_count_of, Suits};
-ghost use Rattle.cb_selections.specs.Extracted.{AreBelow, AreFew};
+ghost use Rattle.cb_selections.specs.Extracted.{AreBelow, AreFew, listed_or_all};
 ghost use Rattle.cb_kept.specs.Answers.{IsAnswer, NoFault};
-ghost use Rattle.cb_kept.specs.Kept.{semiring_of, matrix_in};
-ghost use Rattle.cb_kept.specs.KeptSelections.{refusal_faults, selection_faults, HasSelected, HasSelectedColumns, number_faults, IsExtractAnswer, IsExtractOf, IsExtractColumnsAnswer, IsExtractColumnsOf};
+ghost use Rattle.cb_kept.specs.KeptSelections.{refusal_faults, selection_faults, HasSelected, number_faults, IsExtractAnswer, IsExtractOf};
 
 use crate::faults::Fault;
 use crate::kept::{Keep, Kept, keep_block, of_matrix};
 use crate::kept_calls::{KeptCall, kept_call};
-use crate::kept_shares::Share;
+use crate::kept_shares::{Share, columns_of_first, is_whole};
 use cb_dcsc::Block;
 use cb_layout::PanelledMatrix;
 use cb_matrix::{LIMIT, Shape};
 use cb_operations::Selection;
 use cb_selections::{binary, extract, unary};
 use cb_semirings::Semiring;
-use cb_shares::{extract_columns, selection_columns, total};
+use cb_shares::{extract_columns, selection_columns};
 use std::alloc::{AllocError, Global};
 
 /// Refuses matrices from which a selection can't be made.
@@ -67,50 +63,30 @@ fn made<S: Semiring>(
     }
 }
 
-impl KeptCall for Selection {
-    ghost use Rattle.std.specs.Prelude.{◌≡◌};
-    ghost use Rattle.cb_operations.specs.SelectionAnswers.{operand_count_of, answer_of};
-    ghost use Rattle.cb_kept.specs.Kept.{Keeps};
-    ghost use Rattle.cb_kept.specs.KeptSelections.{refusal_faults};
-
-    type Answer = Kept;
-
-    ghost takes = { λ o n. n ≡ operand_count_of o };
-
-    ghost faults = { refusal_faults };
-
-    ghost gives = { λ o name s ms. Keeps name (answer_of o s ms) };
-
-    fn over<S: Keep>(&self, alloc: Global, operands: &[&PanelledMatrix<S>]) -> Result<Kept, Fault> {
-        check(*self, operands)?;
-        let block = made(alloc, *self, operands)?;
-        Ok(keep_block::<S>(alloc, block))
-    }
-}
-
-/// Makes a selection from kept matrices, and keeps the result. `None` stands for an unknown region or function, or for a power
-/// without factors.
-#[tactic(auto, unfolding(crate::specs::KeptSelections::selection_faults))]
-pub fn kept_selection(
-    alloc: Global,
-    selection: Option<Selection>,
-    operands: &[&Kept],
-) -> Result<Kept, Fault>
-    requires { IfSome selection (λ o. length operands.now ≡ operand_count_of o) }
-    ensures { IsAnswer (selection_faults selection (lent_in operands.now)) (HasSelected selection (lent_in operands.now)) result }
+/// How many columns a selection from matrices has.
+fn columns_of<S: Semiring>(selection: Selection, operands: &[&PanelledMatrix<S>]) -> u64
+    requires { length operands.now ≡ operand_count_of selection }
+    ensures { result ≡ (answer_of selection S.arithmetic (lent_in operands.now)).shape.cols }
 {
+    let cols = columns_of_first(operands);
     match selection {
-        Some(known) => kept_call(alloc, &known, operands),
-        None => Err(Fault::Test),
+        Selection::Select(_region) => cols,
+        Selection::Apply(_function) => cols,
+        Selection::Diagonal => 1,
+        Selection::DiagonalMatrix => u64::from(operands[0].shape().rows()),
+        Selection::Power(_factors) => cols,
+        Selection::Part(_rows, cols) => u64::from(cols.1.saturating_sub(cols.0)),
+        Selection::Kronecker => cols * u64::from(operands[1].shape().cols()),
+        Selection::Assign(_corner) => cols,
+        Selection::Exclude => cols,
     }
 }
 
 impl KeptCall for Share<Selection> {
     ghost use Rattle.std.specs.Prelude.{◌≡◌};
     ghost use Rattle.cb_operations.specs.SelectionAnswers.{operand_count_of, answer_of};
-    ghost use Rattle.cb_shares.specs.Shares.{panel};
-    ghost use Rattle.cb_kept.specs.Kept.{Keeps};
     ghost use Rattle.cb_kept.specs.KeptSelections.{refusal_faults};
+    ghost use Rattle.cb_kept.specs.KeptShares.{KeepsColumns};
 
     type Answer = Kept;
 
@@ -118,20 +94,25 @@ impl KeptCall for Share<Selection> {
 
     ghost faults = { λ c s ms. refusal_faults c.call s ms };
 
-    ghost gives = { λ c name s ms. Keeps name (panel (answer_of c.call s ms) c.first c.end) };
+    ghost gives = { λ c name s ms. KeepsColumns name (answer_of c.call s ms) c.first c.end };
 
-    #[tactic(auto, using(crate::proofs::SelectionFirsts::selection_fault, crate::proofs::SelectionFirsts::none_of_selection))]
+    #[tactic(auto, using(crate::proofs::SelectionFirsts::selection_fault))]
     fn over<S: Keep>(&self, alloc: Global, operands: &[&PanelledMatrix<S>]) -> Result<Kept, Fault> {
+        check(self.call, operands)?;
+        if is_whole(self.first, self.end, columns_of(self.call, operands)) {
+            let block = made(alloc, self.call, operands)?;
+            return Ok(keep_block::<S>(alloc, block));
+        }
         let block = selection_columns(alloc, self.call, operands, self.first, self.end)?;
         Ok(keep_block::<S>(alloc, block))
     }
 }
 
 /// Keeps the columns from `first` up to, but not including, `end` of a selection from kept matrices, in the shape of the whole
-/// result. `None` stands for an unknown region or function, or for a power without factors. The faults are those of the whole
-/// selection. Costs what [`cb_shares::selection_columns`] costs.
+/// result. `None` stands for an unknown number, or for a power without factors. The faults are those of the whole selection. All
+/// columns cost what the kernel of the selection costs; some cost what [`cb_shares::selection_columns`] costs.
 #[tactic(auto, unfolding(crate::specs::KeptSelections::selection_faults))]
-pub fn kept_selection_columns(
+pub fn kept_selection(
     alloc: Global,
     selection: Option<Selection>,
     operands: &[&Kept],
@@ -139,7 +120,7 @@ pub fn kept_selection_columns(
     end: u32,
 ) -> Result<Kept, Fault>
     requires { IfSome selection (λ o. length operands.now ≡ operand_count_of o) }
-    ensures { IsAnswer (selection_faults selection (lent_in operands.now)) (HasSelectedColumns selection first end (lent_in operands.now)) result }
+    ensures { IsAnswer (selection_faults selection (lent_in operands.now)) (HasSelected selection first end (lent_in operands.now)) result }
 {
     match selection {
         Some(call) => kept_call(alloc, &Share { call, first, end }, operands),
@@ -185,72 +166,51 @@ fn check_numbers(shape: Shape, rows: Option<&[u32]>, cols: Option<&[u32]>) -> Re
     Ok(())
 }
 
-/// The rows and columns of a matrix by their numbers, kept.
+/// How many columns are meant by a list of them, or by none, which stands for all.
+fn count_of(shape: Shape, cols: Option<&[u32]>) -> u64
+    ensures { result ≡ length (listed_or_all (option_copied cols.entry) shape.cols) }
+{
+    match cols {
+        Some(cols) => cols.len() as u64,
+        None => u64::from(shape.cols()),
+    }
+}
+
+/// Some columns of the rows and columns of a matrix by their numbers, kept.
 fn extract_kept<S: Keep>(
     alloc: Global,
     matrix: &PanelledMatrix<S>,
     rows: Option<&[u32]>,
     cols: Option<&[u32]>,
+    first: u32,
+    end: u32,
 ) -> Result<Kept, Fault>
-    ensures { IsExtractOf S.name S.arithmetic (option_copied rows.entry) (option_copied cols.entry) matrix.now result }
+    ensures { IsExtractOf S.name S.arithmetic (option_copied rows.entry) (option_copied cols.entry) first end matrix.now result }
 {
     check_numbers(matrix.shape(), rows, cols)?;
-    let whole = matrix.whole()?;
-    let part = extract(alloc, whole.block(), rows, cols)?;
+    if is_whole(first, end, count_of(matrix.shape(), cols)) {
+        let whole = matrix.whole()?;
+        let made = extract(alloc, whole.block(), rows, cols)?;
+        return Ok(keep_block::<S>(alloc, made));
+    }
+    let part = extract_columns(alloc, matrix, rows, cols, first, end)?;
     Ok(keep_block::<S>(alloc, part))
 }
 
-/// Keeps the matrix of the rows and columns of a kept matrix by their numbers, in any order, with repetitions, or of all of
-/// them. Costs a binary search for each column number, the row numbers, and the entries of these columns. If the row numbers
-/// don't ascend, it also costs a binary search for each, and two transposes.
+/// Keeps the columns from `first` up to, but not including, `end` of the matrix of the rows and columns of a kept matrix by their
+/// numbers, in any order, with repetitions, or of all of them, in its shape. The faults are those of the whole. Costs a binary search
+/// for each column number, the row numbers, and the entries of these columns. If the row numbers don't ascend, it also costs a
+/// binary search for each, and two transposes.
 #[tactic(auto, unfolding(crate::specs::Kept::semiring_of, crate::specs::Kept::matrix_in))]
 pub fn kept_extract(
     alloc: Global,
     kept: &Kept,
     rows: Option<&[u32]>,
     cols: Option<&[u32]>,
-) -> Result<Kept, Fault>
-    ensures { IsExtractAnswer (option_copied rows.entry) (option_copied cols.entry) kept.now result }
-{
-    of_matrix!(kept, matrix => extract_kept(alloc, matrix, rows, cols))
-}
-
-/// Some columns of the rows and columns of a matrix by their numbers, kept.
-fn extract_columns_kept<S: Keep>(
-    alloc: Global,
-    matrix: &PanelledMatrix<S>,
-    rows: Option<&[u32]>,
-    cols: Option<&[u32]>,
     first: u32,
     end: u32,
 ) -> Result<Kept, Fault>
-    ensures { IsExtractColumnsOf S.name S.arithmetic (option_copied rows.entry) (option_copied cols.entry) first end matrix.now result }
+    ensures { IsExtractAnswer (option_copied rows.entry) (option_copied cols.entry) first end kept.now result }
 {
-    check_numbers(matrix.shape(), rows, cols)?;
-    let part = extract_columns(alloc, matrix, rows, cols, first, end)?;
-    Ok(keep_block::<S>(alloc, part))
-}
-
-/// Keeps the columns from `first` up to, but not including, `end` of the matrix that [`kept_extract`] keeps, in its shape. The
-/// faults are those of the whole. Costs what [`cb_shares::extract_columns`] costs.
-#[tactic(auto, unfolding(crate::specs::Kept::semiring_of, crate::specs::Kept::matrix_in))]
-pub fn kept_extract_columns(
-    alloc: Global,
-    kept: &Kept,
-    rows: Option<&[u32]>,
-    cols: Option<&[u32]>,
-    first: u32,
-    end: u32,
-) -> Result<Kept, Fault>
-    ensures { IsExtractColumnsAnswer (option_copied rows.entry) (option_copied cols.entry) first end kept.now result }
-{
-    of_matrix!(kept, matrix => extract_columns_kept(alloc, matrix, rows, cols, first, end))
-}
-
-/// Returns the semiring's sum of all values of a kept matrix: its zero if there are no entries.
-#[tactic(auto, unfolding(crate::specs::Kept::semiring_of, crate::specs::Kept::matrix_in))]
-pub fn kept_total(kept: &Kept) -> u64
-    ensures { result ≡ matrix_total (arithmetic_of (semiring_of kept.now)) (matrix_in kept.now) }
-{
-    of_matrix!(kept, matrix => total(matrix))
+    of_matrix!(kept, matrix => extract_kept(alloc, matrix, rows, cols, first, end))
 }

@@ -1,27 +1,29 @@
-//! Shares of an operation on kept matrices, for threads of a program in another language: some columns of its result, and
-//! where the ranges of columns end. Panels are put beside one another as those of a product are (`kept_panels`).
-ghost use Rattle.std.specs.Prelude.{◌≡◌, length, IfSome};
-ghost use Rattle.cb_operations.specs.OperationAnswers.{operand_count_of};
+//! Shares of a call on kept matrices, for threads of a program in another language: some columns of its result, and where the
+//! ranges of columns end. The whole result is the range of all columns.
+ghost use Rattle.std.specs.Prelude.{◌≡◌, ◌↔◌, ◌<◌, ◌≤◌, IsTrue, length};
+ghost use Rattle.cb_operations.specs.OperationAnswers.{matrix_at};
 ghost use Rattle.cb_operations.specs.Operands.{lent_in};
 ghost use Rattle.cb_shares.specs.Shares.{AreEnds};
 ghost use Rattle.cb_kept.specs.Answers.{IsAnswer};
 ghost use Rattle.cb_kept.specs.Kept.{matrix_in};
-ghost use Rattle.cb_kept.specs.KeptAnswers.{kept_faults};
-ghost use Rattle.cb_kept.specs.KeptShares.{pair_faults, HasMadeColumns};
+ghost use Rattle.cb_kept.specs.KeptShares.{factor_faults, pair_faults, IsWhole};
 
 use crate::faults::Fault;
-use crate::kept::{Keep, Kept, keep_block};
+use crate::kept::{Keep, Kept};
 use crate::kept_calls::{KeptCall, kept_call};
 use crate::kept_checks::check_shapes;
 use cb_layout::PanelledMatrix;
+use cb_matrix::LIMIT;
 use cb_operations::Operation;
-use cb_shares::{ends_by_entries, operation_columns};
+use cb_product::LEAST_PRODUCTS;
+use cb_semirings::Semiring;
+use cb_shares::{ends_by_entries, ends_of};
 use std::alloc::Global;
 
 /// The fewest entries that are worth a thread.
 const LEAST_ENTRIES: usize = 32_768;
 
-/// Some columns of the result of a call.
+/// The columns of a call's result from `first` up to, but not including, `end`.
 #[derive(Drop)]
 pub(crate) struct Share<C> {
     pub(crate) call: C,
@@ -29,46 +31,20 @@ pub(crate) struct Share<C> {
     pub(crate) end: u32,
 }
 
-impl KeptCall for Share<Operation> {
-    ghost use Rattle.std.specs.Prelude.{◌≡◌};
-    ghost use Rattle.cb_operations.specs.OperationAnswers.{operand_count_of, answer_of};
-    ghost use Rattle.cb_shares.specs.Shares.{panel};
-    ghost use Rattle.cb_kept.specs.Kept.{Keeps};
-    ghost use Rattle.cb_kept.specs.CallsOver.{shape_faults};
-
-    type Answer = Kept;
-
-    ghost takes = { λ c n. n ≡ operand_count_of c.call };
-
-    ghost faults = { λ c s ms. shape_faults c.call ms };
-
-    ghost gives = { λ c name s ms. Keeps name (panel (answer_of c.call s ms) c.first c.end) };
-
-    fn over<S: Keep>(&self, alloc: Global, operands: &[&PanelledMatrix<S>]) -> Result<Kept, Fault> {
-        check_shapes(self.call, operands)?;
-        let block = operation_columns(alloc, self.call, operands, self.first, self.end)?;
-        Ok(keep_block::<S>(alloc, block))
-    }
+/// Whether a range is that of all columns, where there are so many.
+pub(crate) fn is_whole(first: u32, end: u32, cols: u64) -> bool
+    ensures { IsTrue result ↔ IsWhole first end cols }
+{
+    first == 0 && cols <= u64::from(end)
 }
 
-/// Keeps the columns from `first` up to, but not including, `end` of the result of an operation on kept matrices, in the shape
-/// of the whole result. `None` stands for a prune by an unknown test. The faults are those of the whole operation. Costs what
-/// [`cb_shares::operation_columns`] costs.
-#[tactic(auto, unfolding(crate::specs::KeptAnswers::kept_faults))]
-pub fn kept_columns(
-    alloc: Global,
-    operation: Option<Operation>,
-    operands: &[&Kept],
-    first: u32,
-    end: u32,
-) -> Result<Kept, Fault>
-    requires { IfSome operation (λ o. length operands.now ≡ operand_count_of o) }
-    ensures { IsAnswer (kept_faults operation (lent_in operands.now)) (HasMadeColumns operation first end (lent_in operands.now)) result }
+/// How many columns the first of some matrices has.
+pub(crate) fn columns_of_first<S: Semiring>(operands: &[&PanelledMatrix<S>]) -> u64
+    requires { 0 < length operands.now }
+    ensures count { result ≡ (matrix_at (lent_in operands.now) 0).shape.cols }
+    ensures limit { result ≤ LIMIT }
 {
-    match operation {
-        Some(call) => kept_call(alloc, &Share { call, first, end }, operands),
-        None => Err(Fault::Test),
-    }
+    u64::from(operands[0].shape().cols())
 }
 
 /// Where each of `count` ranges of the columns of two matrices ends.
@@ -110,4 +86,49 @@ pub fn kept_entry_ends(alloc: Global, a: &Kept, b: &Kept, count: usize) -> Resul
     ensures { IsAnswer (pair_faults a.now b.now) (λ ends. AreEnds count (matrix_in a.now).shape.cols ends.items) result }
 {
     kept_call(alloc, &EntryEnds { count }, &[a, b])
+}
+
+/// Where each of `count` ranges of a product's columns ends.
+#[derive(Drop)]
+struct ProductEnds {
+    count: usize,
+}
+
+impl KeptCall for ProductEnds {
+    ghost use Rattle.std.specs.Prelude.{◌≡◌};
+    ghost use Rattle.cb_operations.specs.declared.operations.Operation.TheVariants.{Multiply};
+    ghost use Rattle.cb_operations.specs.OperationAnswers.{matrix_at};
+    ghost use Rattle.cb_shares.specs.Shares.{AreEnds};
+    ghost use Rattle.cb_kept.specs.CallsOver.{shape_faults};
+
+    type Answer = Vec<u32>;
+
+    ghost takes = { λ _ n. n ≡ 2 };
+
+    ghost faults = { λ _ s ms. shape_faults Multiply ms };
+
+    ghost gives = { λ c name s ms ends. AreEnds c.count (matrix_at ms 1).shape.cols ends.items };
+
+    fn over<S: Keep>(
+        &self,
+        alloc: Global,
+        operands: &[&PanelledMatrix<S>],
+    ) -> Result<Vec<u32>, Fault> {
+        check_shapes(Operation::Multiply, operands)?;
+        let [a, b] = operands else { unreachable!() };
+        let a = a.whole()?;
+        let b = b.whole()?;
+        let ends = ends_of(alloc, a.block(), b.block(), self.count, LEAST_PRODUCTS)?;
+        Ok(ends)
+    }
+}
+
+/// Returns where each of `count` ranges of a product's columns ends. All ranges take about the same number of products of
+/// two values, and about [`LEAST_PRODUCTS`] or more: ranges that are left over have no columns. Costs an index of the left
+/// matrix's columns, and a pass over the right matrix's entries.
+#[tactic(auto, using(crate::proofs::KeptFirsts::of_pair), unfolding(crate::specs::KeptShares::factor_faults))]
+pub fn kept_ends(alloc: Global, left: &Kept, right: &Kept, count: usize) -> Result<Vec<u32>, Fault>
+    ensures { IsAnswer (factor_faults left.now right.now) (λ ends. AreEnds count (matrix_in right.now).shape.cols ends.items) result }
+{
+    kept_call(alloc, &ProductEnds { count }, &[left, right])
 }

@@ -1,18 +1,15 @@
 //! Shares of sums over the columns of kept matrices, for threads of a program in another language: what some columns add to a
 //! product with a vector, to the sums of rows or to the sum of all values; and shares that are added up.
-ghost use Rattle.std.specs.Prelude.{◌≡◌, ◌↔◌, IsTrue, length, All, IfOk, IfErr, OnErr};
+ghost use Rattle.std.specs.Prelude.{◌≡◌, ◌↔◌, IsTrue, length, All, IfOk, IfErr, IfSome};
 ghost use Rattle.cb_semirings.specs.Arithmetic.{IsValue};
 ghost use Rattle.cb_semirings.specs.Names.{arithmetic_of};
-ghost use Rattle.cb_operations.specs.declared.operations.Operation.TheVariants as operation_is;
 ghost use Rattle.cb_operations.specs.OperationAnswers.{operand_count_of};
 ghost use Rattle.cb_operations.specs.Operands.{lent_in};
-ghost use Rattle.cb_reshape.specs.Sums.{matrix_total};
-ghost use Rattle.cb_shares.specs.Shares.{panel};
 ghost use Rattle.cb_shares.specs.Sums.{IsSumOfColumns};
 ghost use Rattle.cb_kept.specs.Answers.{IsAnswer, NoFault};
 ghost use Rattle.cb_kept.specs.Kept.{semiring_of, matrix_in};
 ghost use Rattle.cb_kept.specs.KeptAnswers.{kept_faults};
-ghost use Rattle.cb_kept.specs.KeptSums.{AddsShare, IsColumnOver, IsKeptColumn, IsKeptShare, share_faults, sum_faults};
+ghost use Rattle.cb_kept.specs.KeptSums.{IsAddedShare, IsColumnOver, IsKeptColumn, IsKeptShare, IsTotal, share_faults, sum_faults};
 
 use crate::faults::Fault;
 use crate::kept::{Keep, Kept, keep_block, of_matrix};
@@ -64,20 +61,23 @@ impl KeptCall for SumShare {
 }
 
 /// Returns what the columns of the first kept matrix from `first` up to, but not including, `end` add to a product with a vector
-/// or to sums of rows, as a list with a number for each row, which belongs to the caller. The faults are those of the whole
-/// operation. Costs what [`cb_shares::share_of_sum`] costs.
+/// or to sums of rows, as a list with a number for each row, which belongs to the caller. `None` stands for a number of another
+/// operation. The faults are those of the whole operation. Costs what [`cb_shares::share_of_sum`] costs.
 #[tactic(auto, unfolding(crate::specs::KeptAnswers::kept_faults))]
 pub fn kept_share_of_sum(
     alloc: Global,
-    operation: Operation,
+    operation: Option<Operation>,
     operands: &[&Kept],
     first: u32,
     end: u32,
 ) -> Result<Sums, Fault>
-    requires sum { IsSumOfColumns operation }
-    requires count { length operands.now ≡ operand_count_of operation }
-    ensures { IsAnswer (kept_faults (Some operation) (lent_in operands.now)) (IsKeptShare operation first end (lent_in operands.now)) result }
+    requires sum { IfSome operation IsSumOfColumns }
+    requires count { IfSome operation (λ o. length operands.now ≡ operand_count_of o) }
+    ensures { IsAnswer (kept_faults operation (lent_in operands.now)) (IsKeptShare operation first end (lent_in operands.now)) result }
 {
+    let Some(operation) = operation else {
+        return Err(Fault::Test);
+    };
     let call = SumShare {
         operation,
         first,
@@ -86,12 +86,21 @@ pub fn kept_share_of_sum(
     kept_call(alloc, &call, operands)
 }
 
-/// Returns the sum of all values of a kept matrix in the columns from `first` up to, but not including, `end`. Takes no memory.
-#[tactic(auto, unfolding(crate::specs::Kept::semiring_of, crate::specs::Kept::matrix_in))]
-pub fn kept_total_of_columns(kept: &Kept, first: u32, end: u32) -> u64
-    ensures { result ≡ matrix_total (arithmetic_of (semiring_of kept.now)) (panel (matrix_in kept.now) first end) }
+/// The sum of all values of a matrix in some columns, or in all.
+fn total_over<S: Semiring>(matrix: &PanelledMatrix<S>, first: u32, end: u32) -> u64
+    ensures { IsTotal S.arithmetic matrix.now first end result }
 {
-    of_matrix!(kept, matrix => total_of_columns(matrix, first, end))
+    prove_eq!(matrix.shape(), matrix.shape());
+    total_of_columns(matrix, first, end)
+}
+
+/// Returns the sum of all values of a kept matrix in the columns from `first` up to, but not including, `end`: the semiring's zero
+/// if they have no entries. Takes no memory.
+#[tactic(auto, unfolding(crate::specs::Kept::semiring_of, crate::specs::Kept::matrix_in))]
+pub fn kept_total(kept: &Kept, first: u32, end: u32) -> u64
+    ensures { IsTotal (arithmetic_of (semiring_of kept.now)) (matrix_in kept.now) first end result }
+{
+    of_matrix!(kept, matrix => total_over(matrix, first, end))
 }
 
 /// Whether all numbers of a list are values.
@@ -123,8 +132,7 @@ fn check_shares<S: Semiring>(sums: &[u64], more: &[u64]) -> Result<(), Fault>
 
 /// Adds a share to another over a semiring.
 fn add_over<S: Semiring>(sums: &mut [u64], more: &[u64]) -> Result<(), Fault>
-    ensures answer { IsAnswer (share_faults S.arithmetic sums.old more.now) (λ _. AddsShare S.arithmetic sums.old more.now sums.new) result }
-    ensures unchanged { OnErr result (sums.new ≡ sums.old) }
+    ensures { IsAddedShare S.arithmetic sums.old more.now sums.new result }
 {
     check_shares::<S>(sums, more)?;
     add_share::<S>(sums, more);
@@ -133,8 +141,7 @@ fn add_over<S: Semiring>(sums: &mut [u64], more: &[u64]) -> Result<(), Fault>
 
 /// The same, over the semiring of a name.
 fn add_named(semiring: SemiringName, sums: &mut [u64], more: &[u64]) -> Result<(), Fault>
-    ensures answer { IsAnswer (share_faults (arithmetic_of semiring) sums.old more.now) (λ _. AddsShare (arithmetic_of semiring) sums.old more.now sums.new) result }
-    ensures unchanged { OnErr result (sums.new ≡ sums.old) }
+    ensures { IsAddedShare (arithmetic_of semiring) sums.old more.now sums.new result }
 {
     over_semiring!(semiring, add_over::<_>(sums, more))
 }
@@ -142,8 +149,7 @@ fn add_named(semiring: SemiringName, sums: &mut [u64], more: &[u64]) -> Result<(
 /// Adds a share to that of the columns before it, over the semiring of a kept matrix: lists of one length, or the sums of all
 /// values in these columns, as lists of a single number. At a fault nothing changes. Costs a few instructions for each number.
 pub fn kept_add_share(like: &Kept, sums: &mut [u64], more: &[u64]) -> Result<(), Fault>
-    ensures answer { IsAnswer (share_faults (arithmetic_of (semiring_of like.now)) sums.old more.now) (λ _. AddsShare (arithmetic_of (semiring_of like.now)) sums.old more.now sums.new) result }
-    ensures unchanged { OnErr result (sums.new ≡ sums.old) }
+    ensures { IsAddedShare (arithmetic_of (semiring_of like.now)) sums.old more.now sums.new result }
 {
     add_named(like.semiring(), sums, more)
 }

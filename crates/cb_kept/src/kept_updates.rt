@@ -1,16 +1,16 @@
-//! A kept matrix updated by another one, under a mask that is kept too; and some columns of it.
+//! A kept matrix updated by another one, under a mask that is kept too, whole or some columns of it.
 ghost use Rattle.std.specs.Prelude.{◌≡◌, ◌≤◌, None, length, IfOk, IfErr, option_copied};
 ghost use Rattle.cb_operations.specs.Operands.{lent_in};
 ghost use Rattle.cb_selections.specs.Updates.{updated};
 ghost use Rattle.cb_shares.specs.Shares.{panel};
 ghost use Rattle.cb_kept.specs.Answers.{NoFault};
 ghost use Rattle.cb_kept.specs.CallsOver.{IsCallOverCommon};
-ghost use Rattle.cb_kept.specs.KeptUpdates.{write_back_of, operands_of, HaveOneShape, one_shape_faults, update_of, IsUpdate, IsUpdateOfColumns};
+ghost use Rattle.cb_kept.specs.KeptUpdates.{write_back_of, operands_of, HaveOneShape, one_shape_faults, update_of, IsUpdate};
 
 use crate::faults::Fault;
 use crate::kept::{Keep, Kept, keep_block};
 use crate::kept_calls::{KeptCall, kept_call};
-use crate::kept_shares::Share;
+use crate::kept_shares::{Share, columns_of_first, is_whole};
 use cb_dcsc::Block;
 use cb_layout::PanelledMatrix;
 use cb_selections::{WriteBack, update};
@@ -90,26 +90,6 @@ fn made<S: Semiring>(
     }
 }
 
-impl KeptCall for WriteBack {
-    ghost use Rattle.std.specs.Prelude.{◌≤◌};
-    ghost use Rattle.cb_kept.specs.Kept.{Keeps};
-    ghost use Rattle.cb_kept.specs.KeptUpdates.{one_shape_faults, update_of};
-
-    type Answer = Kept;
-
-    ghost takes = { λ _ n. (2 ≤ n) × (n ≤ 3) };
-
-    ghost faults = { λ _ s ms. one_shape_faults ms };
-
-    ghost gives = { λ how name s ms. Keeps name (update_of how s ms) };
-
-    fn over<S: Keep>(&self, alloc: Global, operands: &[&PanelledMatrix<S>]) -> Result<Kept, Fault> {
-        check_update(operands)?;
-        let block = made(alloc, *self, operands)?;
-        Ok(keep_block::<S>(alloc, block))
-    }
-}
-
 /// Some columns of a matrix, updated by another one, under a mask if there is one.
 fn updated_columns<'a, S: Semiring>(
     alloc: Global,
@@ -134,8 +114,7 @@ fn updated_columns<'a, S: Semiring>(
 
 impl KeptCall for Share<WriteBack> {
     ghost use Rattle.std.specs.Prelude.{◌≤◌};
-    ghost use Rattle.cb_shares.specs.Shares.{panel};
-    ghost use Rattle.cb_kept.specs.Kept.{Keeps};
+    ghost use Rattle.cb_kept.specs.KeptShares.{KeepsColumns};
     ghost use Rattle.cb_kept.specs.KeptUpdates.{one_shape_faults, update_of};
 
     type Answer = Kept;
@@ -144,10 +123,14 @@ impl KeptCall for Share<WriteBack> {
 
     ghost faults = { λ _ s ms. one_shape_faults ms };
 
-    ghost gives = { λ c name s ms. Keeps name (panel (update_of c.call s ms) c.first c.end) };
+    ghost gives = { λ c name s ms. KeepsColumns name (update_of c.call s ms) c.first c.end };
 
     fn over<S: Keep>(&self, alloc: Global, operands: &[&PanelledMatrix<S>]) -> Result<Kept, Fault> {
         check_update(operands)?;
+        if is_whole(self.first, self.end, columns_of_first(operands)) {
+            let block = made(alloc, self.call, operands)?;
+            return Ok(keep_block::<S>(alloc, block));
+        }
         let block = updated_columns(alloc, self, operands)?;
         Ok(keep_block::<S>(alloc, block))
     }
@@ -171,29 +154,12 @@ fn update_call<C: KeptCall>(
     }
 }
 
-/// Keeps the old matrix, updated by a new one at the places that the mask allows ([`cb_selections::update`]). `None` for how
-/// it writes stands for an unknown number.
+/// Keeps the columns from `first` up to, but not including, `end` of a kept matrix that is updated by a new one at the places
+/// that the mask allows ([`cb_selections::update`]), in the shape of the whole. `None` for how it writes stands for an unknown
+/// number. The faults are those of the whole update. All columns cost what the update costs; some cost what
+/// [`cb_shares::update_columns`] costs.
 #[tactic(auto, unfolding(crate::specs::KeptUpdates::update_faults))]
 pub fn kept_update(
-    alloc: Global,
-    how: Option<WriteBack>,
-    old: &Kept,
-    new: &Kept,
-    mask: Option<&Kept>,
-) -> Result<Kept, Fault>
-    ensures { IsUpdate how old.now new.now (option_copied mask.entry) result }
-{
-    match how {
-        Some(known) => update_call(alloc, &known, old, new, mask),
-        None => Err(Fault::Test),
-    }
-}
-
-/// Keeps the columns from `first` up to, but not including, `end` of a kept matrix that is updated by a new one at the places
-/// that the mask allows, in the shape of the whole. `None` for how it writes stands for an unknown number. The faults are those
-/// of the whole update. Costs what [`cb_shares::update_columns`] costs.
-#[tactic(auto, unfolding(crate::specs::KeptUpdates::update_faults))]
-pub fn kept_update_columns(
     alloc: Global,
     how: Option<WriteBack>,
     old: &Kept,
@@ -202,7 +168,7 @@ pub fn kept_update_columns(
     first: u32,
     end: u32,
 ) -> Result<Kept, Fault>
-    ensures { IsUpdateOfColumns how first end old.now new.now (option_copied mask.entry) result }
+    ensures { IsUpdate how first end old.now new.now (option_copied mask.entry) result }
 {
     match how {
         Some(call) => update_call(alloc, &Share { call, first, end }, old, new, mask),

@@ -12,6 +12,7 @@
 #![tactic(auto)]
 
 mod checks;
+mod choices;
 mod faults;
 mod incoming;
 mod kept;
@@ -19,10 +20,10 @@ mod kept_calls;
 mod kept_checks;
 mod kept_graphs;
 mod kept_lists;
-mod kept_masked_panels;
 mod kept_matrices;
 mod kept_operations;
 mod kept_panels;
+mod kept_products;
 mod kept_selections;
 mod kept_shares;
 mod kept_sums;
@@ -31,30 +32,24 @@ mod kept_turned;
 mod kept_updates;
 mod kept_values;
 mod misfits;
-mod selections;
 mod texts;
 mod triples;
 
+pub use choices::{Choice, operation_of, selection_of, sum_of};
 pub use faults::Fault;
 pub use kept::Kept;
 pub use kept_graphs::{KeptAnswer, graph_task_of, kept_graph};
 pub use kept_lists::{keep_lists, lists_of};
-pub use kept_masked_panels::{Allowed, kept_masked_panel, kept_outside};
 pub use kept_matrices::{KeptMatrix, kept_join};
-pub use kept_operations::{operate, prune_of};
-pub use kept_panels::{kept_ends, kept_panel};
-pub use kept_selections::{
-    kept_extract, kept_extract_columns, kept_selection, kept_selection_columns, kept_total,
-};
-pub use kept_shares::{kept_columns, kept_entry_ends};
-pub use kept_sums::{
-    Sums, kept_add_share, kept_column_of_sums, kept_share_of_sum, kept_total_of_columns,
-};
+pub use kept_operations::kept_operation;
+pub use kept_products::kept_outside;
+pub use kept_selections::{kept_extract, kept_selection};
+pub use kept_shares::{kept_ends, kept_entry_ends};
+pub use kept_sums::{Sums, kept_add_share, kept_column_of_sums, kept_share_of_sum, kept_total};
 pub use kept_texts::{read_kept, text_of};
 pub use kept_turned::kept_turned_product;
-pub use kept_updates::{kept_update, kept_update_columns, write_back_of};
+pub use kept_updates::{kept_update, write_back_of};
 pub use kept_values::{Summary, summary_of, value_at};
 pub use misfits::{first_outside, misfit_of_lists, misfit_of_triples};
-pub use selections::{function_of, power_of, region_of};
 pub use texts::Text;
 pub use triples::{Triple, keep_triples};

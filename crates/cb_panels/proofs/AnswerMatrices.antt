@@ -110,24 +110,14 @@ module _ (s : Arithmetic) (laws : IsSemiring s) where
   one_selected_matrix (selection_is.Apply f) a count by suits is =
       IsMatrix-matrix_of s a.shape (λ i j. cond (not (at s a i j == s.zero)) (function_value s f i j (at s a i j)) s.zero)
       (λ i j l m. either (not (at s a i j == s.zero)) (function_value s f i j (at s a i j)) s.zero (function_value-value s laws f i j (at s a i j) (taken f a.shape i j l m suits) (value a is i j)) laws.zero_value)
-  one_selected_matrix selection_is.Diagonal a count by suits is = absurd by
-  one_selected_matrix selection_is.DiagonalMatrix a count by suits is = absurd by
-  one_selected_matrix (selection_is.Power factors) a count by suits is = absurd by
-  one_selected_matrix (selection_is.Part rows cols) a count by suits is = absurd by
-  one_selected_matrix selection_is.Kronecker a count by suits is = absurd by
-  one_selected_matrix (selection_is.Assign corner) a count by suits is = absurd by
   one_selected_matrix selection_is.Exclude a count by suits is = let c : 2 ≡ 1 = count in absurd (omega (arith, c))
+  one_selected_matrix _ a count by suits is = absurd by
 
   pub two_selected_matrix : (selection : Selection) (a b : Sparse) → selections.operand_count_of selection ≡ 2 → IsSelectionByColumns selection
       → IsMatrix s a → IsMatrix s (selections.answer_of selection s (a ∷ b ∷ []))
   two_selected_matrix (selection_is.Select region) a b count by is = let c : 1 ≡ 2 = count in absurd (omega (arith, c))
   two_selected_matrix (selection_is.Apply f) a b count by is = let c : 1 ≡ 2 = count in absurd (omega (arith, c))
-  two_selected_matrix selection_is.Diagonal a b count by is = absurd by
-  two_selected_matrix selection_is.DiagonalMatrix a b count by is = absurd by
-  two_selected_matrix (selection_is.Power factors) a b count by is = absurd by
-  two_selected_matrix (selection_is.Part rows cols) a b count by is = absurd by
-  two_selected_matrix selection_is.Kronecker a b count by is = absurd by
-  two_selected_matrix (selection_is.Assign corner) a b count by is = absurd by
   two_selected_matrix selection_is.Exclude a b count by is =
       IsMatrix-matrix_of s a.shape (λ i j. cond (has_entry s b i j) s.zero (at s a i j))
       (λ i j _ _. either (has_entry s b i j) s.zero (at s a i j) laws.zero_value (value a is i j))
+  two_selected_matrix _ a b count by is = absurd by

@@ -29,15 +29,8 @@ use Rattle.cb_rank_process.proofs.OperandSlots.{put_at, row_of_blocks, row_of_op
 
 -- an operation takes one to three matrices
 pub some_operands : (operation : Operation) → (1 ≤ operand_count_of operation) × (operand_count_of operation ≤ 3)
-some_operands Multiply = (omega arith, omega arith)
 some_operands MultiplyMasked = (omega arith, omega arith)
-some_operands MultiplyVector = (omega arith, omega arith)
-some_operands Transpose = (omega arith, omega arith)
-some_operands RowSums = (omega arith, omega arith)
-some_operands ColumnSums = (omega arith, omega arith)
-some_operands Add = (omega arith, omega arith)
-some_operands Times = (omega arith, omega arith)
-some_operands (Prune test) = (omega arith, omega arith)
+some_operands _ = (omega arith, omega arith)
 
 -- a plan is begun, and then the registers are given up
 pub started_and_given_up : (operation : Operation) (x begun y : ProcessView) (count : ℕ) (plan : CheckedView) (slot : ℕ) (shape whole : Extent) (store slots : List (Slot Sparse))

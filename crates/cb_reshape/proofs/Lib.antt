@@ -1,20 +1,19 @@
 -- Exchanged: entries whose rows and columns are exchanged, in order. Counts: how many numbers are below a bound, and
 -- their sums. ByRow: entries placed row by row. Bands: which are placed while a band is.
 -- Turned: entries row by row are the transpose.
--- FirstFrom: where the numbers from a bound on begin. PartOfColumn, PartOfBlock: the part of one column, and of all
--- columns one after another. PartValues: the value at each place of a part that was moved. ListedColumn: a list as a column.
+-- PartOfColumn, PartOfBlock: the part of one column, and of all columns one after another; a part with all rows. PartValues:
+-- the value at each place of a part that was moved. ListedColumn: a list as a column.
 mod Exchanged
 mod Counts
 mod ByRow
 mod Bands
 mod Turned
-mod FirstFrom
 mod PartOfColumn
 mod PartOfBlock
 mod PartValues
 mod ListedColumn
 -- For this crate alone. StoredSums: the sum of a column over all rows is the sum of its stored values. SumsSoFar: the sums of
--- the columns that have entries, one after another, are the sums of all columns. TurnedSums: the sums of rows are those of
+-- the columns that have entries, but for the zeros, make a row, which are the sums of all columns. TurnedSums: the sums of rows are those of
 -- the columns of the transpose. AllValues: the sum of all values is the sum of the stored ones. RowTotals: sums of rows in a
 -- list, to which entries are added one after another.
 mod StoredSums

@@ -1,21 +1,22 @@
 -- All entries, column by column.
-use Rattle.std.proofs.Common.{◌≡◌, ◌≢◌, ℕ, ◌+◌, ◌-◌, ◌<◌, ◌≤◌, true, false, cond, List, [], ◌∷◌, ◌++◌, length, take, drop, get_or, sym, refl, ap, ◌∙◌, ⊎_elim, arith, subst, length-drop}
+use Rattle.std.proofs.Common.{◌≡◌, ◌≢◌, ℕ, ◌+◌, ◌-◌, ◌<◌, ◌≤◌, true, false, cond, List, [], ◌∷◌, ◌++◌, length, map, filter, take, drop, get_or, sym, refl, ap, ◌∙◌, ⊎_elim, arith, subst, length-drop}
 use Rattle.std.specs.Prelude.{All, AllPairs, ◌==◌}
 use Rattle.std.specs.List.{flat_map}
 use Rattle.std.proofs.lemmas.Bool.{cond-true, eq-eqb, ne_eqb, eqb-true, eqb-false}
+use Rattle.std.proofs.lemmas.Bool.Decides.{nat_tests}
 use Rattle.std.proofs.lemmas.List.{append-nil, take_more, take-append-drop, get_or-take, get_or-drop, length-take-le}
 use Rattle.std.proofs.lemmas.List.Concat.{flat_map-append}
 use Rattle.std.proofs.lemmas.List.Elements.{All-nil, All-cons, All-head, All-tail, All-append, All-map, All-filter, All-from_get_or, All-weaker, filter_passes}
 use Rattle.cb_matrix.specs.declared.Entry.{Entry}
 use Rattle.cb_matrix.specs.Sparse.{Sparse, Extent, IsBefore}
 use Rattle.cb_matrix.proofs.Pairs.{AllPairs-nil, AllPairs-cons, AllPairs-head, AllPairs-tail}
-use Rattle.cb_dcsc.specs.Columns.{in_column, rows_of, values_of, with_front, columns_with_entries, with_entries}
+use Rattle.cb_dcsc.specs.Columns.{in_column, rows_of, values_of, with_front, columns_with_entries, with_entries, is_in_columns, moved_to, moved_columns}
 use Rattle.cb_matrix.specs.Values.{empty_matrix}
 use Rattle.cb_dcsc.specs.Compressed.{entries_in}
 use Rattle.cb_dcsc.proofs.ColumnEntries.{in_column-none, entries_in-column}
 use Rattle.cb_dcsc.proofs.NumbersOfColumns.{columns_all, entries_all}
 use Rattle.cb_reshape.specs.declared.parts.Part.{Part}
-use Rattle.cb_reshape.specs.Moving.{Fits, is_in, moved_entries}
+use Rattle.cb_reshape.specs.Moving.{Fits, is_in, is_within, moved_entry, moved_entries}
 use Rattle.cb_reshape.proofs.PartOfColumn.{moved_none, moved_append, moved_all, column_below, column_past}
 
 -- ---- the columns that have entries
@@ -177,3 +178,20 @@ module _ (part : Part) (es : List Entry) (up : AllPairs IsBefore es) (shape : Ex
 -- the part fits the block that it goes into
 pub in_shape : (part : Part) (shape : Extent) (out : Sparse) (es : List Entry) → out ≡ record { shape = shape; entries = es } → Fits shape part → Fits out.shape part
 in_shape part shape out es is h = subst (λ (o : Sparse). Fits o.shape part) (sym is) h
+
+-- ---- a part with all rows
+rows_within : (part : Part) (e : Entry) → part.rows.0 ≡ 0 → e.row < part.rows.1 → is_within part.rows e.row ≡ true
+rows_within part e z l = grind (arith, nat_tests)
+
+-- has the entries of whole columns
+pub whole_columns : (part : Part) (es : List Entry) → part.rows.0 ≡ 0 → All (λ e. e.row < part.rows.1) es → moved_columns part.cols part.corner es ≡ moved_entries part es
+whole_columns part [] z h = refl
+whole_columns part (e ∷ es) z h =
+    let rest = whole_columns part es z (All-tail (λ e. e.row < part.rows.1) e es h) in
+    let row : e.row + part.corner.0 ≡ e.row - part.rows.0 + part.corner.0 = omega (arith, z) in
+    let one : moved_to part.corner part.cols.0 e ≡ moved_entry part e = λ t. record { row = row t; column = e.column - part.cols.0 + part.corner.1; value = e.value } in
+    let inside = rows_within part e z (All-head (λ e. e.row < part.rows.1) e es h) in
+    rw inside (elim (is_in_columns part.cols e) as (λ b. map (moved_to part.corner part.cols.0) (cond b (e ∷ filter (is_in_columns part.cols) es) (filter (is_in_columns part.cols) es)) ≡ map (moved_entry part) (cond b (e ∷ filter (is_in part) es) (filter (is_in part) es))) [
+      | true ↦ (λ t. one t ∷ rest t)
+      | false ↦ rest
+    ])

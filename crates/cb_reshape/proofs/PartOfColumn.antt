@@ -3,7 +3,7 @@ use Rattle.std.proofs.Common.{◌≡◌, ℕ, zero, suc, ◌+◌, ◌-◌, ◌<�
 use Rattle.std.specs.Prelude.{All, AllPairs}
 use Rattle.std.proofs.lemmas.Bool.{cases_Bool}
 use Rattle.std.proofs.lemmas.Bool.Decides.{nat_tests}
-use Rattle.std.proofs.lemmas.List.{append-nil, map-append, take_more, take-append-drop, get_or-take, get_or-drop, get_or-map, length-map, length-take-le}
+use Rattle.std.proofs.lemmas.List.{append-nil, map-append, take_more, take-append-drop, get_or-take, get_or-drop, length-map, length-take-le}
 use Rattle.std.proofs.lemmas.List.Elements.{All-head, All-tail, All-append, All-map, All-filter, All-from_get_or, All-weaker, filter-append, filter_passes}
 use Rattle.cb_matrix.specs.declared.Entry.{Entry}
 use Rattle.cb_matrix.specs.Sparse.{Sparse, IsBefore}
@@ -159,35 +159,6 @@ module _ (part : Part) (c : ℕ) (rows values : List ℕ) (lengths : length valu
       ∙ ap (λ es. es ++ record { row = row - part.rows.0 + part.corner.0; column = c - part.cols.0 + part.corner.1; value = value } ∷ []) (column_moved a m (a + m) refl (omega arith) below first (λ k x. last k (omega arith)) p q)
       ∙ sym (taken_more (a + m) (omega arith) (first (a + m) (omega arith) (omega arith)) (last (a + m) (omega arith)) p q)
       ∙ ap (λ i. moved_entries part (take i all)) last_place
-
--- what holds of each element from one place up to another holds of these
-pub range_all : (P : ℕ → Type 0) (xs : List ℕ) (a b : ℕ) → a ≤ b → b ≤ length xs → ((k : ℕ) → a ≤ k → k < b → P (get_or xs k 0)) → All P (take (b - a) (drop a xs))
-range_all P xs a b l m h = All-from_get_or P (take (b - a) (drop a xs)) 0 (λ k n.
-    let rest = length-drop a xs in
-    let count = length-take-le (b - a) (drop a xs) (omega arith) in
-    let e = get_or-take (b - a) (drop a xs) k 0 (omega arith) ∙ get_or-drop a xs k 0 in
-    subst P (sym e) (h (a + k) (omega arith) (omega arith)))
-
--- numbers that ascend do so from one place up to another
-pub range_ascends : (xs : List ℕ) (a b : ℕ) → a ≤ b → b ≤ length xs → AllPairs (λ i j. i < j) xs → AllPairs (λ i j. i < j) (take (b - a) (drop a xs))
-range_ascends xs a b l m up i j d less n =
-    let rest = length-drop a xs in
-    let count = length-take-le (b - a) (drop a xs) (omega arith) in
-    let x = get_or-take (b - a) (drop a xs) i d (omega arith) ∙ get_or-drop a xs i d in
-    let y = get_or-take (b - a) (drop a xs) j d (omega arith) ∙ get_or-drop a xs j d in
-    rw (x, y) (up (a + i) (a + j) d (omega arith) (omega arith))
-
--- and after a move
-pub moved_ascend : (xs : List ℕ) (from to : ℕ) → All (λ i. from ≤ i) xs → AllPairs (λ i j. i < j) xs → AllPairs (λ i j. i < j) (map (λ i. i - from + to) xs)
-moved_ascend xs from to above up i j d l m =
-    let f : ℕ → ℕ = λ i. i - from + to in
-    let long = length-map xs f in
-    let inside : j < length xs = omega arith in
-    let less = up i j 0 l inside in
-    let first = above i 0 (omega arith) in
-    let x = get_or-map f xs i 0 d (omega arith) in
-    let y = get_or-map f xs j 0 d inside in
-    rw (x, y) (omega arith)
 
 -- ---- a column after those before it
 -- what was stored before the column comes before an entry of it

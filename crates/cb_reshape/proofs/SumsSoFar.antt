@@ -1,14 +1,15 @@
 -- The sums of the columns that have entries, one after another.
-use Rattle.std.proofs.Common.{◌≡◌, ◌≢◌, ℕ, ◌+◌, ◌<◌, ◌≤◌, true, false, List, [], ◌∷◌, ◌++◌, length, take, get_or, sym, refl, ap, subst, ◌∙◌, arith}
+use Rattle.std.proofs.Common.{◌≡◌, ◌≢◌, ℕ, ◌+◌, ◌<◌, ◌≤◌, Bool, true, false, not, cond, List, [], ◌∷◌, ◌++◌, length, map, filter, take, get_or, sym, refl, ap, subst, ◌∙◌, arith}
 use Rattle.std.specs.Prelude.{All, AllPairs, ◌==◌}
 use Rattle.std.specs.List.{flat_map}
-use Rattle.std.proofs.lemmas.Bool.{eqb-true, eqb-false, ne_eqb}
-use Rattle.std.proofs.lemmas.List.{append-nil, take_more, take_all, get_or-take, length-take-le}
+use Rattle.std.proofs.lemmas.Bool.{eqb-true, eqb-false, eq-eqb, ne_eqb}
+use Rattle.std.proofs.lemmas.List.{append-nil, take_more, take_all, get_or-take, length-map, length-take-le}
 use Rattle.std.proofs.lemmas.List.Concat.{flat_map-append}
-use Rattle.std.proofs.lemmas.List.Elements.{All-nil, All-cons, All-head, All-tail, All-append, All-from_get_or, All-weaker}
-use Rattle.cb_semirings.specs.Arithmetic.{Arithmetic, IsSemiring}
+use Rattle.std.proofs.lemmas.List.Elements.{All-nil, All-cons, All-head, All-tail, All-append, All-filter, All-from_get_or, All-map, All-weaker, filter_passes}
+use Rattle.std.proofs.lemmas.List.Kept.{AllPairs-filter}
+use Rattle.cb_semirings.specs.Arithmetic.{Arithmetic, IsSemiring, IsValue}
 use Rattle.cb_matrix.specs.declared.Entry.{Entry}
-use Rattle.cb_matrix.specs.Sparse.{Sparse, Extent, IsMatrix, value_at, is_at}
+use Rattle.cb_matrix.specs.Sparse.{Sparse, IsMatrix, value_at, is_at}
 use Rattle.cb_matrix.specs.Values.{total}
 use Rattle.cb_matrix.specs.Operations.{column_sums}
 use Rattle.cb_matrix.proofs.Pairs.{AllPairs-head, AllPairs-tail}
@@ -19,7 +20,8 @@ use Rattle.cb_matrix.proofs.Equal.{matrix_is}
 use Rattle.cb_dcsc.specs.Columns.{in_column, values_of, columns_with_entries}
 use Rattle.cb_dcsc.proofs.ColumnEntries.{in_column-none}
 use Rattle.cb_dcsc.proofs.NumbersOfColumns.{entries_all}
-use Rattle.cb_reshape.specs.Sums.{sum_at, with_sum}
+use Rattle.cb_dcsc.specs.Compressed.{entries_in_row}
+use Rattle.cb_reshape.specs.Sums.{sum_at}
 use Rattle.cb_reshape.proofs.StoredSums.{column_total}
 
 module _ (s : Arithmetic) (t : ℕ → ℕ) where
@@ -77,17 +79,46 @@ module _ (s : Arithmetic) (t : ℕ → ℕ) where
 abbrev pub stored_total : Arithmetic → List Entry → ℕ → ℕ
 stored_total s es c = total s (values_of (in_column c es))
 
--- the sum of one more column is stored
-pub sum_stored : (s : Arithmetic) (a sums new : Sparse) (shape : Extent) (cs values : List ℕ) (n : ℕ) → cs ≡ columns_with_entries a.entries → n < length cs → values ≡ values_of (in_column (get_or (columns_with_entries a.entries) n 0) a.entries) →
-    sums ≡ record { shape = shape; entries = sums_at s (stored_total s a.entries) (take n (columns_with_entries a.entries)) } → new ≡ with_sum s sums (get_or cs n 0) (total s values) →
-    new ≡ record { shape = shape; entries = sums_at s (stored_total s a.entries) (take (n + 1) (columns_with_entries a.entries)) }
-sum_stored s a sums new shape cs values n are l values_are so_far more =
-    let all = columns_with_entries a.entries in
-    let t : ℕ → ℕ = stored_total s a.entries in
-    let below : n < length all = subst (λ xs. n < length xs) are l in
-    more
-    ∙ (λ z. with_sum s (so_far z) (get_or (are z) n 0) (total s (values_are z)))
-    ∙ ap (λ (es : List Entry). let m : Sparse = record { shape = shape; entries = es } in m) (sym (sums_more s t all n below))
+-- ---- the columns whose sum isn't zero
+-- whether the value of t isn't zero
+abbrev pub is_stored : Arithmetic → (ℕ → ℕ) → ℕ → Bool
+is_stored s t c = not (t c == s.zero)
+
+-- these columns and their values have the entries
+pub sums_in_row : (s : Arithmetic) (t : ℕ → ℕ) (cs : List ℕ) → entries_in_row 0 (filter (is_stored s t) cs) (map t (filter (is_stored s t) cs)) ≡ sums_at s t cs
+unfolding entries_in_row
+sums_in_row s t [] = refl
+sums_in_row s t (c ∷ cs) =
+    let kept = filter (is_stored s t) cs in
+    elim (t c == s.zero) as (λ b. entries_in_row 0 (cond (not b) (c ∷ kept) kept) (map t (cond (not b) (c ∷ kept) kept)) ≡ cond b [] (record { row = 0; column = c; value = t c } ∷ []) ++ sums_at s t cs) [
+      | true ↦ sums_in_row s t cs
+      | false ↦ ap (λ es. record { row = 0; column = c; value = t c } ∷ es) (sums_in_row s t cs)
+    ]
+
+-- what is required of them for a block of one row
+pub record AreRow (s : Arithmetic) (cols : ℕ) (columns sums : List ℕ) : Type 0 where
+  pub lengths : length sums ≡ length columns
+  pub ascending : AllPairs (λ c d. c < d) columns
+  pub inside : All (λ c. c < cols) columns
+  pub values : All (IsValue s) sums
+  pub not_zero : All (λ v. v ≢ s.zero) sums
+
+pub are_row : (s : Arithmetic) (t : ℕ → ℕ) (cols : ℕ) (cs columns sums : List ℕ) → AllPairs (λ c d. c < d) cs → All (λ c. c < cols) cs → ((c : ℕ) → IsValue s (t c)) → columns ≡ filter (is_stored s t) cs → sums ≡ map t columns → AreRow s cols columns sums
+are_row s t cols cs columns sums up inside values is are =
+    let kept = filter (is_stored s t) cs in
+    let stored : All (λ c. t c ≢ s.zero) kept = All-weaker (λ c. is_stored s t c ≡ true) (λ c. t c ≢ s.zero) (λ c p e. true_false (sym p ∙ ap not (eq-eqb (t c) s.zero e))) kept (filter_passes (is_stored s t) cs) in
+    let all : AreRow s cols kept (map t kept) = record {
+      lengths = length-map kept t;
+      ascending = AllPairs-filter (λ c d. c < d) (is_stored s t) cs up;
+      inside = All-filter (is_stored s t) (λ c. c < cols) cs inside;
+      values = All-map (IsValue s) t kept (λ k d l. values (get_or kept k d));
+      not_zero = All-map (λ v. v ≢ s.zero) t kept stored;
+    } in
+    let both = are ∙ ap (map t) is in
+    rw (is, both) all
+  where
+    true_false : true ≡ false → ⊥
+    true_false e = cc
 
 -- the sums of all columns with entries are the column sums of the matrix
 pub all_sums_are : (s : Arithmetic) → IsSemiring s → (a sums : Sparse) (cs : List ℕ) (n : ℕ) → IsMatrix s a → IsMatrix s sums → cs ≡ columns_with_entries a.entries → AllPairs (λ c d. c < d) cs → length cs ≤ n →

@@ -1,5 +1,5 @@
 -- Sums of columns, in a matrix of one row, and the sum of all values.
-use Rattle.std.specs.Prelude.{◌≡◌, ℕ, ◌<◌, List, ◌++◌, map, slice_index_or}
+use Rattle.std.specs.Prelude.{◌≡◌, ℕ, ◌<◌, List, map, slice_index_or}
 use Rattle.std.specs.List.{range_with_len}
 use Rattle.cb_semirings.specs.Arithmetic.{Arithmetic}
 use Rattle.cb_matrix.specs.declared.Entry.{Entry}
@@ -10,10 +10,6 @@ use Rattle.cb_matrix.specs.Combined.{stored}
 -- an entry of row 0, unless its value is zero
 abbrev pub sum_at : Arithmetic → ℕ → ℕ → List Entry
 sum_at s column value = stored s.zero (record { row = 0; column = column; value = value })
-
--- a matrix of one row with one more sum, after all the others
-abbrev pub with_sum : Arithmetic → Sparse → ℕ → ℕ → Sparse
-with_sum s m column value = record { shape = m.shape; entries = m.entries ++ sum_at s column value }
 
 -- the sum of column j
 abbrev pub column_total : Arithmetic → Sparse → ℕ → ℕ

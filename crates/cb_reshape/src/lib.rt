@@ -2,9 +2,9 @@
 //! of columns and of all entries (`sums`).
 //!
 //! No value changes: each entry moves to another place or is left out. Cutting and placing keep the order of the entries,
-//! by column and then by row, so one walk over the columns does both (`parts`): it takes the entries in some rows and
-//! columns and shifts them. It finds these rows and columns by binary search, so what is left out is not read. A column of
-//! which the part has all rows, or none, is not searched. The transpose needs the entries in another order: by a counting
+//! by column and then by row, so both take the entries in some rows and columns and shift them (`parts`). Where whole columns
+//! move, their lists are copied as slices. Otherwise one walk over the columns does it. It finds the rows and columns of the
+//! part by binary search, so what is left out is not read. A column of which the part has all rows, or none, is not searched. The transpose needs the entries in another order: by a counting
 //! sort (`counting`), or, if a list as long as a dimension would cost more than the block, by comparisons.
 //!
 //! The operations are those by which Buluç and Gilbert, The Combinatorial BLAS (Int. J. High Perform. Comput. Appl. 2011,
@@ -123,7 +123,8 @@ fn entries_in_rows<S: Semiring>(
 /// last. The first row and column of the part are row 0 and column 0 of the result.
 ///
 /// Costs a few instructions for each entry of the part, two binary searches for each of its columns that has entries in its
-/// rows and in others, and two more for the columns themselves. The result takes no more memory than its entries.
+/// rows and in others, and two more for the columns themselves. A part with all rows costs a copy of its entries' slices, and
+/// nothing column by column. The result takes no more memory than its entries.
 pub fn cut<S: Semiring>(
     alloc: Global,
     block: &Block<S>,
@@ -148,7 +149,7 @@ pub fn cut<S: Semiring>(
 /// The block placed in a larger shape, with its row 0 and column 0 at `corner`, a row and a column. No entries are around
 /// it.
 ///
-/// Costs a few instructions for each entry.
+/// Costs a copy of the entries' slices, and nothing column by column.
 pub fn place<S: Semiring>(
     alloc: Global,
     block: &Block<S>,

@@ -6,7 +6,7 @@ ghost use Rattle.cb_dcsc.specs.Columns.{columns_with_entries, with_entries};
 ghost use Rattle.cb_dcsc.specs.Compressed.{entries_in};
 ghost use Rattle.cb_reshape.specs.Moving.{Fits, moved_entries};
 
-use cb_dcsc::Block;
+use cb_dcsc::{Block, first_from};
 use cb_matrix::Shape;
 use cb_semirings::Semiring;
 use std::alloc::{AllocError, Global};
@@ -22,6 +22,43 @@ pub(crate) struct Part {
 
 /// The part of a block, in a block of the given shape.
 pub(crate) fn moved<S: Semiring>(
+    alloc: Global,
+    shape: Shape,
+    block: &Block<S>,
+    part: Part,
+) -> Result<Block<S>, AllocError>
+    requires matrix { IsMatrix S.arithmetic block.now }
+    requires fits { Fits shape part }
+    ensures entries { IfOk result (λ m. m ≡ record { shape = shape; entries = moved_entries part block.now.entries }) }
+    ensures matrix { IfOk result (λ m. IsMatrix S.arithmetic m) }
+{
+    if part.rows.0 == 0 && block.shape().rows() <= part.rows.1 {
+        return moved_columns(alloc, shape, block, part);
+    }
+    moved_rows(alloc, shape, block, part)
+}
+
+/// The same for a part that has all rows of the block, so that whole columns move.
+fn moved_columns<S: Semiring>(
+    alloc: Global,
+    shape: Shape,
+    block: &Block<S>,
+    part: Part,
+) -> Result<Block<S>, AllocError>
+    requires matrix { IsMatrix S.arithmetic block.now }
+    requires fits { Fits shape part }
+    requires first { part.rows.0 ≡ 0 }
+    requires rows { block.now.shape.rows ≤ part.rows.1 }
+    ensures entries { IfOk result (λ m. m ≡ record { shape = shape; entries = moved_entries part block.now.entries }) }
+    ensures matrix { IfOk result (λ m. IsMatrix S.arithmetic m) }
+{
+    let mut out = Block::empty(alloc, shape);
+    out.append_columns(block, part.cols, part.corner)?;
+    Ok(out)
+}
+
+/// The same for any part, column by column.
+fn moved_rows<S: Semiring>(
     alloc: Global,
     shape: Shape,
     block: &Block<S>,
@@ -113,23 +150,4 @@ fn range_within(numbers: &[u32], range: (u32, u32)) -> (usize, usize)
     ensures after { (k : ℕ) → result.1 ≤ k → k < length numbers.now → range.1 ≤ slice_index numbers.now k }
 {
     (first_from(numbers, range.0), first_from(numbers, range.1))
-}
-
-/// How many of these numbers, which ascend, are below a bound. They are searched only if some are below it and some aren't.
-fn first_from(numbers: &[u32], bound: u32) -> usize
-    requires { AllPairs (λ i j. i < j) numbers.now }
-    ensures within { result ≤ length numbers.now }
-    ensures below { (k : ℕ) → k < result → slice_index numbers.now k < bound }
-    ensures from { (k : ℕ) → result ≤ k → k < length numbers.now → bound ≤ slice_index numbers.now k }
-{
-    if numbers.is_empty() || bound <= numbers[0] {
-        return 0;
-    }
-    if numbers[numbers.len() - 1] < bound {
-        return numbers.len();
-    }
-    match numbers.binary_search(&bound) {
-        Ok(n) => n,
-        Err(n) => n,
-    }
 }

@@ -6,30 +6,37 @@
 //!
 //! This is the reduction of Buluç and Gilbert, The Combinatorial BLAS (Int. J. High Perform. Comput. Appl. 2011,
 //! section 3.1).
-ghost use Rattle.std.specs.Prelude.{◌≡◌, ◌<◌, length, All, IfOk, OnOk};
+ghost use Rattle.std.specs.Prelude.{◌≡◌, length, All, IfOk};
 ghost use Rattle.cb_semirings.specs.Arithmetic.{IsValue};
 ghost use Rattle.cb_matrix.specs.Sparse.{IsMatrix};
 ghost use Rattle.cb_matrix.specs.Values.{total};
 ghost use Rattle.cb_matrix.specs.Operations.{column_sums, row_sums};
-ghost use Rattle.cb_reshape.specs.Sums.{with_sum, matrix_total, AddsRowSums};
+ghost use Rattle.cb_reshape.specs.Sums.{matrix_total, AddsRowSums};
 
 use crate::{column_of_list, has_few_rows, transpose};
 use cb_dcsc::Block;
-use cb_matrix::{Entry, Shape};
+use cb_matrix::Shape;
 use cb_semirings::Semiring;
 use std::alloc::{AllocError, Global};
 
-/// Returns the sum of each column of a block, in a block of one row. Costs one pass over the values, whatever the shape is.
+/// Returns the sum of each column of a block, in a block of one row. Costs one pass over the values, and a few instructions for
+/// each column that has entries, whatever the shape is.
 pub fn column_sums<S: Semiring>(alloc: Global, block: &Block<S>) -> Result<Block<S>, AllocError>
     ensures { IfOk result (λ sums. sums ≡ column_sums S.arithmetic block.now) }
 {
-    let mut sums = Block::empty(alloc, one_row(block.shape()));
-    let columns = block.column_numbers();
-    for n in 0..columns.len() {
+    let shape = one_row(block.shape());
+    let numbers = block.column_numbers();
+    let mut columns = Vec::with_capacity(alloc, numbers.len())?;
+    let mut sums = Vec::with_capacity(alloc, numbers.len())?;
+    for n in 0..numbers.len() {
         let (_rows, values) = block.nth_column(n);
-        push_sum(&mut sums, columns[n], values)?;
+        let sum = sum_of_values::<S>(values);
+        if sum != S::zero() {
+            columns.push_reserved(numbers[n]);
+            sums.push_reserved(sum);
+        }
     }
-    Ok(sums)
+    Block::from_row(alloc, shape, 0, columns, sums)
 }
 
 /// Returns the sum of each row of a block, in a block of one column. Costs one pass over the entries, and a list of one
@@ -102,27 +109,6 @@ fn one_row(shape: Shape) -> Shape
     ensures { result ≡ record { rows = 1; cols = shape.cols } }
 {
     Shape::new(1, shape.cols()).unwrap()
-}
-
-/// Appends the sum of a column to those of the columns before it, unless it is zero.
-fn push_sum<S: Semiring>(sums: &mut Block<S>, column: u32, values: &[u64]) -> Result<(), AllocError>
-    requires row { 0 < sums.old.shape.rows }
-    requires column { column < sums.old.shape.cols }
-    requires before { All (λ e. e.column < column) sums.old.entries }
-    requires matrix { IsMatrix S.arithmetic sums.old }
-    requires values { All (IsValue S.arithmetic) values.now }
-    ensures sums { OnOk result (sums.new ≡ with_sum S.arithmetic sums.old column (total S.arithmetic values.now)) }
-    ensures matrix { OnOk result (IsMatrix S.arithmetic sums.new) }
-{
-    let value = sum_of_values::<S>(values);
-    if value != S::zero() {
-        sums.push(Entry {
-            row: 0,
-            column,
-            value,
-        })?;
-    }
-    Ok(())
 }
 
 /// Returns the sum of a list of values.

@@ -1,6 +1,6 @@
 -- The results of a function for each entry, in place of the values.
 use Rattle.std.proofs.Common.{◌≡◌, ◌≢◌, ℕ, ◌<◌, true, false, cond, List, [], ◌∷◌, length, get_or, sym, refl, ◌∙◌, subst, arith}
-use Rattle.std.specs.Prelude.{All}
+use Rattle.std.specs.Prelude.{All, IfOk, IfSome, Option, Some, None, Result, Ok, Err}
 use Rattle.std.proofs.lemmas.Bool.{true≢false}
 use Rattle.std.proofs.lemmas.List.{same_lists, length-map, get_or-map, get_or_default}
 use Rattle.std.proofs.lemmas.List.Elements.{All-head, All-tail, All-map, All-get_or, All-from_get_or, All-weaker}
@@ -14,7 +14,7 @@ use Rattle.cb_dcsc.proofs.Revalued.{revalued_matrix}
 use Rattle.cb_operations.specs.declared.functions.Function.{Function}
 use Rattle.cb_operations.specs.declared.functions.Function.TheVariants.{Constant, Sum, LeftProduct, RightProduct, Row, Column}
 use Rattle.cb_operations.specs.Functions.{operand_of, function_value}
-use Rattle.cb_selections.specs.KernelSteps.{depends_on_column}
+use Rattle.cb_selections.specs.KernelSteps.{AreMade, IsResult, depends_on_column}
 use Rattle.cb_elementwise.specs.RuleLaws.{function_value-value}
 use Rattle.cb_operations.specs.Selected.{of_stored}
 use Rattle.cb_operations.specs.Selected.{applied}
@@ -39,6 +39,13 @@ result_anywhere s (RightProduct n) e i j k x = refl
 result_anywhere s Row e i j k x = refl
 result_anywhere s Column e i j k x = absurd (true≢false e)
 
+-- what a rule makes is what a weaker one makes, if it is made at all
+pub made_as : {A E : Type 0} (items : A → List ℕ) (IsMade Is : ℕ → ℕ → ℕ → Type 0) → ((row value made : ℕ) → IsMade row value made → Is row value made) → (rows values : List ℕ) (result : Result (Option A) E)
+    → IfOk result (λ made. IfSome made (λ list. AreMade IsMade rows values (items list))) → IfOk result (λ made. IfSome made (λ list. AreMade Is rows values (items list)))
+made_as items IsMade Is weaker rows values (Ok (Some list)) are = record { as_long = are.as_long; each = λ k l. weaker (get_or rows k 0) (get_or values k 0) (get_or (items list) k 0) (are.each k l) }
+made_as items IsMade Is weaker rows values (Ok None) are = tt
+made_as items IsMade Is weaker rows values (Err error) are = tt
+
 -- an entry for reads past the end
 abbrev no_entry : Entry
 no_entry = record { row = 0; column = 0; value = 0 }
@@ -48,18 +55,26 @@ module _ (s : Arithmetic) (f : Function) where
   result e = function_value s f e.row e.column e.value
 
   -- the results by row and value, in column 0, are those of the entries
-  pub results_are : depends_on_column f ≡ false → (es : List Entry) (new : List ℕ) → length new ≡ length es
-      → ((k : ℕ) → k < length es → get_or new k 0 ≡ function_value s f (get_or (rows_of es) k 0) 0 (get_or (values_of es) k 0)) → new ≡ results_of s f es
-  results_are free es new long made =
+  pub results_are : depends_on_column f ≡ false → (es : List Entry) (new : List ℕ) → AreMade (IsResult s f) (rows_of es) (values_of es) new → new ≡ results_of s f es
+  results_are free es new are =
+      let long : length new ≡ length es = are.as_long ∙ length-map es (λ (e : Entry). e.value) in
+      let rows : length (rows_of es) ≡ length es = length-map es (λ (e : Entry). e.row) in
       same_lists new (results_of s f es) (long ∙ sym (length-map es result)) (λ k d l.
       let b : k < length es = omega (arith, long, l) in
       let e = get_or es k no_entry in
       let row : get_or (rows_of es) k 0 ≡ e.row = get_or-map (λ (e : Entry). e.row) es k no_entry 0 b in
       let value : get_or (values_of es) k 0 ≡ e.value = get_or-map (λ (e : Entry). e.value) es k no_entry 0 b in
-      get_or_default new k d 0 l ∙ made k b
+      get_or_default new k d 0 l ∙ are.each k (omega (arith, rows, b))
       ∙ (λ z. function_value s f (row z) 0 (value z))
       ∙ result_anywhere s f free e.row 0 e.column e.value
       ∙ sym (get_or-map result es k no_entry d b))
+
+  -- so is what was made of the lists of a matrix, if it was made
+  pub made_are : {A : Type 0} (items : A → List ℕ) → depends_on_column f ≡ false → (es : List Entry) (rows values : List ℕ) → rows ≡ rows_of es → values ≡ values_of es
+      → (made : Option A) (list : A) → made ≡ Some list → IfSome made (λ list. AreMade (IsResult s f) rows values (items list)) → items list ≡ results_of s f es
+  made_are items free es rows values are_rows are_values made list is are =
+      let h = subst (λ o. IfSome o (λ list. AreMade (IsResult s f) rows values (items list))) is are in
+      results_are free es (items list) (subst (λ xs. AreMade (IsResult s f) xs (values_of es) (items list)) are_rows (subst (λ ys. AreMade (IsResult s f) rows ys (items list)) are_values h))
 
   -- the value at a place of the entries with them
   value_here : (es : List Entry) (i j : ℕ) → All (λ (e : Entry). e.value ≢ s.zero) es → value_at s.zero (revalued es (results_of s f es)) i j ≡ of_stored s.zero (function_value s f i j) (value_at s.zero es i j)

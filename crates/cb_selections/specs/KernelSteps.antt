@@ -1,5 +1,5 @@
 -- What kernels make on their way to a selection, and what lets them copy whole lists.
-use Rattle.std.specs.Prelude.{◌≡◌, ℕ, Bool, true, false, not, map, List}
+use Rattle.std.specs.Prelude.{◌≡◌, ℕ, ◌<◌, Bool, true, false, not, length, get_or, map, List}
 use Rattle.cb_semirings.specs.Arithmetic.{Arithmetic}
 use Rattle.cb_matrix.specs.declared.Entry.{Entry}
 use Rattle.cb_matrix.specs.Sparse.{Sparse, Extent, at}
@@ -29,6 +29,15 @@ depends_on_column (LeftProduct n) = false
 depends_on_column (RightProduct n) = false
 depends_on_column Row = false
 depends_on_column Column = true
+
+-- a number is the result of a function for a value, in its row and in column 0
+abbrev pub IsResult : Arithmetic → Function → ℕ → ℕ → ℕ → Type 0
+IsResult s function row value made = made ≡ function_value s function row 0 value
+
+-- These are what a rule makes of rows and values, one by one.
+pub record AreMade (IsMade : ℕ → ℕ → ℕ → Type 0) (rows values made : List ℕ) : Type 0 where
+  pub as_long : length made ≡ length values
+  pub each : (k : ℕ) → k < length rows → IsMade (get_or rows k 0) (get_or values k 0) (get_or made k 0)
 
 -- the result of a function for each entry
 abbrev pub results_of : Arithmetic → Function → List Entry → List ℕ

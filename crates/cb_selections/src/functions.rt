@@ -1,12 +1,13 @@
-//! A function applied to the values of a block, without its places.
-ghost use Rattle.std.specs.Prelude.{◌≡◌, ℕ, ◌<◌, IsTrue, length, slice_index, All};
+//! What a function makes of the values of a block, without its places.
+ghost use Rattle.std.specs.Prelude.{◌≡◌, ◌≢◌, ℕ, ◌<◌, IsTrue, length, slice_index, All, IfOk, IfSome};
 ghost use Rattle.cb_semirings.specs.Arithmetic.{IsValue};
 ghost use Rattle.cb_operations.specs.Functions.{operand_of, function_value};
-ghost use Rattle.cb_selections.specs.KernelSteps.{depends_on_column};
+ghost use Rattle.cb_selections.specs.KernelSteps.{depends_on_column, AreMade, IsResult};
 
 use cb_matrix::Shape;
 use cb_operations::Function;
 use cb_semirings::Semiring;
+use std::alloc::{AllocError, Global};
 
 /// Whether the result of a function depends on the column.
 pub(crate) fn depends_on_column(function: Function) -> bool
@@ -33,36 +34,58 @@ pub(crate) fn gives_zeros<S: Semiring>(function: Function, shape: Shape) -> bool
     }
 }
 
-/// Replaces each value by the result of a function in its row and in column 0. Each function has a loop of its own.
-pub(crate) fn replace_each<S: Semiring>(function: Function, rows: &[u32], values: &mut [u64])
-    requires lengths { length values.old ≡ length rows.now }
-    requires values { All (IsValue S.arithmetic) values.old }
+/// The result of a function for each value, in its row and in column 0, or `None` if one is zero. Each function has a loop of
+/// its own.
+pub(crate) fn results<S: Semiring>(
+    alloc: Global,
+    function: Function,
+    rows: &[u32],
+    values: &[u64],
+) -> Result<Option<Vec<u64>>, AllocError>
+    requires lengths { length values.now ≡ length rows.now }
+    requires values { All (IsValue S.arithmetic) values.now }
     requires operands { All (λ i. IsValue S.arithmetic (operand_of function i 0)) rows.now }
-    ensures length { length values.new ≡ length values.old }
-    ensures made { (k : ℕ) → k < length rows.now → slice_index values.new k ≡ function_value S.arithmetic function (slice_index rows.now k) 0 (slice_index values.old k) }
+    ensures made { IfOk result (λ made. IfSome made (λ list. AreMade (IsResult S.arithmetic function) rows.now values.now list.items)) }
+    ensures not_zero { IfOk result (λ made. IfSome made (λ list. All (λ v. v ≢ S.arithmetic.zero) list.items)) }
 {
     match function {
-        Function::Constant(number) => write_each(rows, values, |_row, _value| number),
-        Function::Sum(number) => write_each(rows, values, |_row, value| S::add(value, number)),
+        Function::Constant(number) => each::<S, _>(alloc, rows, values, |_row, _value| number),
+        Function::Sum(number) => each::<S, _>(
+            alloc,
+            rows,
+            values,
+            |_row, value| S::add(value, number),
+        ),
         Function::LeftProduct(number) => {
-            write_each(rows, values, |_row, value| S::mul(number, value))
+            each::<S, _>(alloc, rows, values, |_row, value| S::mul(number, value))
         }
         Function::RightProduct(number) => {
-            write_each(rows, values, |_row, value| S::mul(value, number))
+            each::<S, _>(alloc, rows, values, |_row, value| S::mul(value, number))
         }
-        Function::Row => write_each(rows, values, |row, _value| u64::from(row)),
-        Function::Column => write_each(rows, values, |_row, _value| 0),
+        Function::Row => each::<S, _>(alloc, rows, values, |row, _value| u64::from(row)),
+        Function::Column => each::<S, _>(alloc, rows, values, |_row, _value| 0),
     }
 }
 
-/// Replaces each value by what `f` makes of its row and of it.
-fn write_each<F: Fn(u32, u64) -> u64>(rows: &[u32], values: &mut [u64], f: F)
-    requires lengths { length values.old ≡ length rows.now }
-    requires callable { (k : ℕ) → k < length rows.now → F.pre f (slice_index rows.now k) (slice_index values.old k) }
-    ensures length { length values.new ≡ length values.old }
-    ensures made { (k : ℕ) → k < length rows.now → F.post f (slice_index rows.now k) (slice_index values.old k) (slice_index values.new k) }
+/// What `f` makes of each row and value, or `None` if it makes a zero.
+fn each<S: Semiring, F: Fn(u32, u64) -> u64>(
+    alloc: Global,
+    rows: &[u32],
+    values: &[u64],
+    f: F,
+) -> Result<Option<Vec<u64>>, AllocError>
+    requires lengths { length values.now ≡ length rows.now }
+    requires callable { (k : ℕ) → k < length rows.now → F.pre f (slice_index rows.now k) (slice_index values.now k) }
+    ensures made { IfOk result (λ made. IfSome made (λ list. AreMade (F.post f) rows.now values.now list.items)) }
+    ensures not_zero { IfOk result (λ made. IfSome made (λ list. All (λ v. v ≢ S.arithmetic.zero) list.items)) }
 {
+    let mut made = Vec::with_capacity(alloc, rows.len())?;
     for n in 0..rows.len() {
-        values[n] = f(rows[n], values[n]);
+        let value = f(rows[n], values[n]);
+        if value == S::zero() {
+            return Ok(None);
+        }
+        made.push_reserved(value);
     }
+    Ok(Some(made))
 }

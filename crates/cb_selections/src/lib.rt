@@ -11,13 +11,13 @@
 //! GraphBLAS C API Specification, version 2.1, section 4.3, and the write-back under a mask that ends each of them.
 #![tactic(auto)]
 
-ghost use Rattle.std.specs.Prelude.{◌≡◌, ◌≢◌, ◌↔◌, ℕ, ◌<◌, ◌≤◌, true, false, IsTrue, All, IfOk, OnOk};
+ghost use Rattle.std.specs.Prelude.{◌≡◌, ℕ, ◌<◌, ◌≤◌, true, IfOk, OnOk};
 ghost use Rattle.cb_semirings.specs.Arithmetic.{IsValue};
 ghost use Rattle.cb_matrix.specs.Sparse.{IsMatrix};
 ghost use Rattle.cb_matrix.specs.Values.{empty_matrix};
 ghost use Rattle.cb_operations.specs.Functions.{operand_of};
 ghost use Rattle.cb_operations.specs.Selected.{selected, applied};
-ghost use Rattle.cb_selections.specs.KernelSteps.{depends_on_column, is_one_range, results_of};
+ghost use Rattle.cb_selections.specs.KernelSteps.{is_one_range};
 
 mod assignments;
 mod diagonals;
@@ -30,7 +30,7 @@ mod selections;
 mod turned_products;
 mod updates;
 
-use crate::functions::{depends_on_column, gives_zeros, replace_each};
+use crate::functions::{depends_on_column, gives_zeros, results};
 use crate::regions::{is_one_range, range};
 pub use assignments::assign;
 use cb_dcsc::Block;
@@ -101,35 +101,12 @@ pub fn apply<S: Semiring>(
 {
     let gives_zeros = gives_zeros::<S>(function, block.shape());
     if !gives_zeros && !depends_on_column(function) {
-        let values = results(alloc, block, function)?;
-        if has_no_zero::<S>(&values) {
-            return block.with_values(values);
+        let (rows, values) = (block.row_numbers(), block.values());
+        if let Some(made) = results::<S>(alloc, function, rows, values)? {
+            return block.with_values(made);
         }
     }
     replaced(alloc, block, &function, block.len())
-}
-
-/// The result of a function for each entry, by column and then by row.
-fn results<S: Semiring>(
-    alloc: Global,
-    block: &Block<S>,
-    function: Function,
-) -> Result<Vec<u64>, AllocError>
-    requires matrix { IsMatrix S.arithmetic block.now }
-    requires column { depends_on_column function ≡ false }
-    requires operands { (i j : ℕ) → i < block.now.shape.rows → j < block.now.shape.cols → IsValue S.arithmetic (operand_of function i j) }
-    ensures { IfOk result (λ values. values.items ≡ results_of S.arithmetic function block.now.entries) }
-{
-    let mut values = Vec::from_slice(alloc, block.values())?;
-    replace_each::<S>(function, block.row_numbers(), &mut values);
-    Ok(values)
-}
-
-/// Whether no value is the semiring's zero.
-fn has_no_zero<S: Semiring>(values: &[u64]) -> bool
-    ensures { IsTrue result ↔ All (λ v. v ≢ S.arithmetic.zero) values.now }
-{
-    values.iter().all(|value| *value != S::zero())
 }
 
 /// The shape with this many rows and columns.

@@ -135,61 +135,36 @@ module _ (s : Arithmetic) (laws : IsSemiring s) (cs : List ℕ) where
   -- ---- by the value of an operation
   pub one_columns : (a : Sparse) → IsMatrix s a → (operation : Operation) → operand_count_of operation ≡ 1 → IsByColumns operation
       → answer_of operation s (only_columns cs a ∷ []) ≡ only_columns cs (answer_of operation s (a ∷ []))
-  one_columns a is Multiply count by = absurd by
-  one_columns a is MultiplyMasked count by = absurd by
-  one_columns a is MultiplyVector count by = absurd by
-  one_columns a is Transpose count by = absurd by
-  one_columns a is RowSums count by = absurd by
   one_columns a is ColumnSums count by = summed_columns a is
+  one_columns a is (Prune test) count by = pruned_columns a is (passes test)
   one_columns a is Add count by = let c : 2 ≡ 1 = count in absurd (omega arith)
   one_columns a is Times count by = let c : 2 ≡ 1 = count in absurd (omega arith)
-  one_columns a is (Prune test) count by = pruned_columns a is (passes test)
+  one_columns a is _ count by = absurd by
 
   pub two_columns : (a : Sparse) → IsMatrix s a → (b : Sparse) → IsMatrix s b → (operation : Operation) → operand_count_of operation ≡ 2 → IsByColumns operation
       → answer_of operation s (only_columns cs a ∷ only_columns cs b ∷ []) ≡ only_columns cs (answer_of operation s (a ∷ b ∷ []))
-  two_columns a is b is_b Multiply count by = absurd by
-  two_columns a is b is_b MultiplyMasked count by = absurd by
-  two_columns a is b is_b MultiplyVector count by = absurd by
-  two_columns a is b is_b Transpose count by = absurd by
-  two_columns a is b is_b RowSums count by = absurd by
-  two_columns a is b is_b ColumnSums count by = let c : 1 ≡ 2 = count in absurd (omega arith)
   two_columns a is b is_b Add count by = sum_columns a is b is_b
   two_columns a is b is_b Times count by = times_columns a is b is_b
+  two_columns a is b is_b ColumnSums count by = let c : 1 ≡ 2 = count in absurd (omega arith)
   two_columns a is b is_b (Prune test) count by = let c : 1 ≡ 2 = count in absurd (omega arith)
+  two_columns a is b is_b _ count by = absurd by
 
   pub three_columns : (a : Sparse) → IsMatrix s a → (b : Sparse) → IsMatrix s b → (m : Sparse) → (operation : Operation) → operand_count_of operation ≡ 3
       → answer_of operation s (a ∷ only_columns cs b ∷ only_columns cs m ∷ []) ≡ only_columns cs (answer_of operation s (a ∷ b ∷ m ∷ []))
-  three_columns a is b is_b m Multiply count = let c : 2 ≡ 3 = count in absurd (omega arith)
   three_columns a is b is_b m MultiplyMasked count = masked_columns a is b is_b m
-  three_columns a is b is_b m MultiplyVector count = let c : 2 ≡ 3 = count in absurd (omega arith)
-  three_columns a is b is_b m Transpose count = let c : 1 ≡ 3 = count in absurd (omega arith)
-  three_columns a is b is_b m RowSums count = let c : 1 ≡ 3 = count in absurd (omega arith)
-  three_columns a is b is_b m ColumnSums count = let c : 1 ≡ 3 = count in absurd (omega arith)
-  three_columns a is b is_b m Add count = let c : 2 ≡ 3 = count in absurd (omega arith)
-  three_columns a is b is_b m Times count = let c : 2 ≡ 3 = count in absurd (omega arith)
-  three_columns a is b is_b m (Prune test) count = let c : 1 ≡ 3 = count in absurd (omega arith)
+  three_columns a is b is_b m _ count = absurd (omega (arith, count))
 
   -- ---- by the value of a selection
   pub one_selected : (a : Sparse) → IsMatrix s a → (selection : Selection) → selection_count selection ≡ 1 → IsSelectionByColumns selection → Suits selection s (shapes_in (a ∷ []))
       → selection_of selection s (only_columns cs a ∷ []) ≡ only_columns cs (selection_of selection s (a ∷ []))
   one_selected a is (Select region) count by suits = selected_columns a is region
   one_selected a is (Apply function) count by suits = applied_columns a is function suits
-  one_selected a is Diagonal count by suits = absurd by
-  one_selected a is DiagonalMatrix count by suits = absurd by
-  one_selected a is (Power factors) count by suits = absurd by
-  one_selected a is (Part rows cols) count by suits = absurd by
-  one_selected a is Kronecker count by suits = absurd by
-  one_selected a is (Assign corner) count by suits = absurd by
   one_selected a is Exclude count by suits = let c : 2 ≡ 1 = count in absurd (omega arith)
+  one_selected a is _ count by suits = absurd by
 
   pub two_selected : (a : Sparse) → IsMatrix s a → (b : Sparse) → IsMatrix s b → (selection : Selection) → selection_count selection ≡ 2 → IsSelectionByColumns selection
       → selection_of selection s (only_columns cs a ∷ only_columns cs b ∷ []) ≡ only_columns cs (selection_of selection s (a ∷ b ∷ []))
+  two_selected a is b is_b Exclude count by = excluded_columns a is b is_b
   two_selected a is b is_b (Select region) count by = let c : 1 ≡ 2 = count in absurd (omega arith)
   two_selected a is b is_b (Apply function) count by = let c : 1 ≡ 2 = count in absurd (omega arith)
-  two_selected a is b is_b Diagonal count by = absurd by
-  two_selected a is b is_b DiagonalMatrix count by = absurd by
-  two_selected a is b is_b (Power factors) count by = absurd by
-  two_selected a is b is_b (Part rows cols) count by = absurd by
-  two_selected a is b is_b Kronecker count by = absurd by
-  two_selected a is b is_b (Assign corner) count by = absurd by
-  two_selected a is b is_b Exclude count by = excluded_columns a is b is_b
+  two_selected a is b is_b _ count by = absurd by

@@ -140,13 +140,7 @@ module _ (s : Arithmetic) (laws : IsSemiring s) where
       let is_a = All-head (IsMatrix s) a [] are in
       row_sum_at (panel a p r) i li ∙ parts_row a is_a p q r l h i ∙ (λ t. s.add (sym (row_sum_at (panel a p q) i li) t) (sym (row_sum_at (panel a q r) i li) t))
   shares_at RowSums (a ∷ x ∷ ms) by count agree are p q r l h i li = absurd (omega arith)
-  shares_at Multiply ms by count agree are p q r l h i li = absurd by
-  shares_at MultiplyMasked ms by count agree are p q r l h i li = absurd by
-  shares_at Transpose ms by count agree are p q r l h i li = absurd by
-  shares_at ColumnSums ms by count agree are p q r l h i li = absurd by
-  shares_at Add ms by count agree are p q r l h i li = absurd by
-  shares_at Times ms by count agree are p q r l h i li = absurd by
-  shares_at (Prune test) ms by count agree are p q r l h i li = absurd by
+  shares_at _ ms by count agree are p q r l h i li = absurd by
 
   -- they have the same rows
   pub same_rows : (operation : Operation) (ms : List Sparse) → IsSumOfColumns operation → (p q u v : ℕ) → (share_of operation s ms p q).shape.rows ≡ (share_of operation s ms u v).shape.rows
@@ -154,13 +148,7 @@ module _ (s : Arithmetic) (laws : IsSemiring s) where
   same_rows MultiplyVector (a ∷ ms) by p q u v = refl
   same_rows RowSums [] by p q u v = refl
   same_rows RowSums (a ∷ ms) by p q u v = refl
-  same_rows Multiply ms by p q u v = absurd by
-  same_rows MultiplyMasked ms by p q u v = absurd by
-  same_rows Transpose ms by p q u v = absurd by
-  same_rows ColumnSums ms by p q u v = absurd by
-  same_rows Add ms by p q u v = absurd by
-  same_rows Times ms by p q u v = absurd by
-  same_rows (Prune test) ms by p q u v = absurd by
+  same_rows _ ms by p q u v = absurd by
 
   -- the share of all columns is the answer
   pub whole_share : (ms : List Sparse) → All (IsMatrix s) ms → (r : ℕ) → (matrix_at ms 0).shape.cols ≤ r → with_columns 0 r ms ≡ ms

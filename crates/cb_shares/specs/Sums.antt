@@ -16,15 +16,9 @@ some_entries from to m = record { shape = m.shape; entries = slice_range m.entri
 
 -- operations whose answer is a sum over the columns of their first operand, and has one column
 abbrev pub IsSumOfColumns : Operation → Type 0
-IsSumOfColumns Multiply = ⊥
-IsSumOfColumns MultiplyMasked = ⊥
 IsSumOfColumns MultiplyVector = Unit {0}
-IsSumOfColumns Transpose = ⊥
 IsSumOfColumns RowSums = Unit {0}
-IsSumOfColumns ColumnSums = ⊥
-IsSumOfColumns Add = ⊥
-IsSumOfColumns Times = ⊥
-IsSumOfColumns (Prune test) = ⊥
+IsSumOfColumns _ = ⊥
 
 -- the first matrix with only the columns from one up to, but not including, another, and the other matrices
 abbrev pub with_columns : ℕ → ℕ → List Sparse → List Sparse

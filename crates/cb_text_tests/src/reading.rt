@@ -4,12 +4,13 @@ ghost use Rattle.std.specs.Prelude.{◌≡◌, IfSome, vec_len};
 use crate::meetings::{Delay, Meeting};
 use cb_dcsc::Block;
 use cb_job_ends::texts::Text;
-use cb_job_inputs::inputs::read_two;
+use cb_job_inputs::operands::read_operands;
 use cb_job_inputs::reading::{Pieces, read_in_pieces, read_side_by_side};
 use cb_job_threads::gates::{Gate, OpenGate};
 use cb_layout::{DistributedMatrix, Grid};
 use cb_market::{Kind, ReadFault, parted, read};
 use cb_market_pages::text;
+use cb_operations::Operands;
 use cb_semirings::PlusTimes;
 use std::alloc::{AllocError, Global};
 use std::thread::Threads;
@@ -290,9 +291,11 @@ fn are_both_read<R: Threads + Sync>(rt: &R, alloc: Global, given: &[u8]) -> bool
     let (Some(wanted), Some(texts)) = (on_one_thread(alloc, given), twice(alloc, given)) else {
         return false;
     };
-    match read_two::<PlusTimes, R>(rt, alloc, &Grid::single(), 2, texts) {
-        Ok((left, right)) => { has_text(alloc, &left, &wanted) && has_text(alloc, &right, &wanted) }
-        Err(_) => false,
+    match read_operands::<PlusTimes, R>(rt, alloc, &Grid::single(), 2, texts) {
+        Ok(Operands::Two(left, right)) => {
+            has_text(alloc, &left, &wanted) && has_text(alloc, &right, &wanted)
+        }
+        _ => false,
     }
 }
 

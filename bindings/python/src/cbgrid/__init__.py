@@ -70,20 +70,9 @@ import numpy as np
 import scipy.sparse
 
 from . import _lists
-from ._matrix import SEMIRINGS, Matrix, kept, number_of, read_matrix, thread_count
-from ._library import (
-    LIMIT,
-    MIXED,
-    SHAPES,
-    SOURCE,
-    TEST,
-    VALUE,
-    CbgridError,
-    CbgridMemoryError,
-    CbgridValueError,
-    error,
-    library,
-)
+from ._matrix import Matrix, kept, number_of, read_matrix, thread_count
+from ._calls import LIMIT, MIXED, SEMIRINGS, SHAPES, SOURCE, TEST, TESTS, VALUE
+from ._library import CbgridError, CbgridMemoryError, CbgridValueError, error, library
 
 __all__ = [
     "CbgridError",
@@ -114,15 +103,14 @@ __version__ = library.cbgrid_version().decode("ascii")
 Sparse = TypeVar("Sparse", bound=Any)
 Vector = TypeVar("Vector", bound=Any)
 
-_TESTS = {"below": 0, "above": 1, "equal": 2}
 _SIDES = ("rows", "columns")
-_MIN_PLUS, _OR_AND = 1, 2
+_MIN_PLUS, _OR_AND = SEMIRINGS["min-plus"], SEMIRINGS["or-and"]
 # Semirings that allow negative values, modulo 2**64.
 _SIGNED = frozenset(SEMIRINGS[name] for name in ("plus-times", "plus-pair", "plus-first", "plus-second"))
 # Semirings in which they are refused here: in or-and the kernel refuses them itself.
 _UNSIGNED = tuple(number not in _SIGNED and number != _OR_AND for number in range(len(SEMIRINGS)))
 # Semirings whose products are saturating sums: a result may not fit int64.
-_SUMS = (_MIN_PLUS, SEMIRINGS["max-plus"])
+_SUMS = frozenset(number for name, number in SEMIRINGS.items() if name.endswith("-plus"))
 # Semirings whose zero is 2**64 - 1.
 _INFINITE = frozenset(number for name, number in SEMIRINGS.items() if name.startswith("min-"))
 
@@ -525,7 +513,7 @@ def prune(a: Sparse, test: str, value: int, semiring: str | None = None) -> Spar
     array([[1, 2],
            [0, 0]])
     """
-    number = _TESTS.get(test)
+    number = TESTS.get(test)
     if number is None:
         raise error(TEST)
     bound = operator.index(value)

@@ -5,11 +5,8 @@ from __future__ import annotations
 import ctypes
 import os
 
-from ._calls import CALLS
+from ._calls import CALLS, MEMORY
 
-SEMIRING, TEST, MIXED, TOO_LARGE, LENGTHS, ORDER, PLACE, VALUE = 1, 2, 3, 5, 6, 7, 8, 9
-SHAPES, NOT_SQUARE, SOURCE, FORMAT, MEMORY, NOT_COLUMN = 10, 11, 12, 13, 14, 16
-LIMIT = 2147483647
 ALL = ctypes.c_size_t(-1).value  # in place of the length of a list of rows or columns
 
 

@@ -12,7 +12,8 @@ from typing import Any
 
 import numpy as np
 
-from ._library import LENGTHS, LIMIT, ORDER, PLACE, TOO_LARGE, VALUE, Columns, error, library
+from ._calls import LENGTHS, LIMIT, ORDER, PLACE, TOO_LARGE, VALUE
+from ._library import Columns, error, library
 
 _DCSC, _CSC = 0, 1
 _SHORT = 1000  # elements: a shorter list is quicker to copy or sort than to share or check

@@ -10,20 +10,13 @@ import numpy as np
 import scipy.sparse
 
 from . import _lists
-from ._library import ALL, FORMAT, LENGTHS, LIMIT, MIXED, NOT_COLUMN, NOT_SQUARE, ORDER, PLACE
-from ._library import SEMIRING, SHAPES, SOURCE, TEST, TOO_LARGE, VALUE
-from ._library import How, Text, error, library, message_of
+from ._calls import FORMAT, FUNCTIONS, LENGTHS, LIMIT, MIXED, NOT_COLUMN, NOT_SQUARE, ORDER, PLACE, REGIONS
+from ._calls import SEMIRING, SEMIRINGS, SHAPES, SOURCE, TEST, TOO_LARGE, VALUE
+from ._library import ALL, How, Text, error, library, message_of
 
-# The semirings in the order of their numbers.
-_NAMES = (
-    "plus-times min-plus or-and max-min plus-pair plus-min plus-first plus-second "
-    "min-first min-second max-first max-second max-plus min-max"
-).split()
-SEMIRINGS = {name: number for number, name in enumerate(_NAMES)}
+_NAMES = tuple(SEMIRINGS)  # in the order of their numbers
 _ZEROS = tuple(2**64 - 1 if name.startswith("min-") else 0 for name in _NAMES)
-_OR_AND = 2
-_REGIONS = {"lower": 0, "upper": 1, "diagonal": 2, "off-diagonal": 3}
-_FUNCTIONS = {"constant": 0, "sum": 1, "left-product": 2, "right-product": 3, "row": 4, "column": 5}
+_OR_AND = SEMIRINGS["or-and"]
 _TRIPLE = np.dtype([("row", np.uint32), ("column", np.uint32), ("value", np.uint64)])
 _UINT64 = np.dtype(np.uint64)
 _void, _byref = ctypes.c_void_p, ctypes.byref
@@ -475,10 +468,10 @@ class Matrix:
         >>> a.select("off-diagonal").to_numpy().tolist()
         [[0, 2], [0, 0]]
         """
-        if region not in _REGIONS:
-            raise error(TEST, f"region: one of {tuple(_REGIONS)} is wanted, not {region!r}")
+        if region not in REGIONS:
+            raise error(TEST, f"region: one of {tuple(REGIONS)} is wanted, not {region!r}")
         diagonal = max(-LIMIT, min(operator.index(k), LIMIT))
-        return self._made(library.cbgrid_matrix_select, _REGIONS[region], diagonal)
+        return self._made(library.cbgrid_matrix_select, REGIONS[region], diagonal)
 
     def tril(self, k: int = 0) -> Matrix:
         """The entries on diagonal k and below it, as `scipy.sparse.tril`.
@@ -552,12 +545,12 @@ class Matrix:
         >>> a.apply("sum", 10).to_numpy().tolist()
         [[11, 12], [0, 13]]
         """
-        if function not in _FUNCTIONS:
-            raise error(TEST, f"function: one of {tuple(_FUNCTIONS)} is wanted, not {function!r}")
+        if function not in FUNCTIONS:
+            raise error(TEST, f"function: one of {tuple(FUNCTIONS)} is wanted, not {function!r}")
         number = operator.index(number)
         if not 0 <= number < 2**64:
             raise error(VALUE, f"number: 0 to 2^64 - 1 is wanted, not {number}")
-        return self._made(library.cbgrid_matrix_apply, _FUNCTIONS[function], number)
+        return self._made(library.cbgrid_matrix_apply, FUNCTIONS[function], number)
 
     def diagonal(self) -> Matrix:
         """The main diagonal, in one column with as many rows as the matrix has rows or columns, whichever are fewer.

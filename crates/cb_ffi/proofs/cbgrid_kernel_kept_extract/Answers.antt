@@ -1,6 +1,4 @@
-use Rattle.std.proofs.Common.{subst}
-use Rattle.std.specs.Prelude.{option_copied}
-use Rattle.cb_ffi.specs.KeptCalls.{IsExtractCall, unless_all}
+use Rattle.cb_ffi.specs.KeptCalls.{IsExtractCall}
 use Rattle.cb_ffi.proofs.KeptCalls.{kept_call_of}
 use Rattle.cb_ffi.proofs.cbgrid_kernel_kept_extract.Goals as goal
 

@@ -1,5 +1,5 @@
 use Rattle.std.proofs.Common.{refl}
-use Rattle.cb_ffi.specs.KeptCalls.{IsEndsCall}
+use Rattle.cb_ffi.specs.KeptCalls.{IsProductEndsCall}
 use Rattle.cb_ffi.proofs.EndsCalls.{as_many_ends, ends_call_of}
 use Rattle.cb_ffi.proofs.ends_kept.Goals as goal
 
@@ -7,5 +7,5 @@ pub put_ends-requires : goal.put_ends-requires
 put_ends-requires c = as_many_ends _ _ _ _ _ refl c.kept_ends-answer.ensures
 
 pub returns : goal.returns
-unfolding IsEndsCall
+unfolding IsProductEndsCall
 returns c = ends_call_of _ _ _ _ _ _ _ refl c.kept_ends-answer.ensures c.put_ends.ensures.ok c.put_ends.ensures.refused

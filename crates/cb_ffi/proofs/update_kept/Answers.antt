@@ -4,4 +4,4 @@ use Rattle.cb_ffi.proofs.update_kept.Goals as goal
 
 pub returns : goal.returns
 unfolding IsUpdateCall
-returns c = kept_call_of _ _ _ _ _ _ c.kept_update.ensures c.put_kept.ensures.ok c.put_kept.ensures.refused
+returns c = kept_call_of _ _ _ _ _ _ c.kept_update-answer.ensures c.put_kept.ensures.ok c.put_kept.ensures.refused

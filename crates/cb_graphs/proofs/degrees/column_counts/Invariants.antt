@@ -1,4 +1,4 @@
-use Rattle.std.proofs.Common.{◌≡◌, ◌≢◌, length, map, take}
+use Rattle.std.proofs.Common.{◌≡◌, ◌≢◌, ◌+◌, ◌-◌, ◌≤◌, length, map, take, vec_len, vec_capacity}
 use Rattle.std.specs.Prelude.{All}
 use Rattle.cb_semirings.specs.Arithmetic.{IsValue}
 use Rattle.cb_semirings.specs.Tables.{plus_times}
@@ -12,4 +12,5 @@ invariant-loop-n g l =
       counts : l.counts.items ≡ map (λ c. length (in_column c es)) (take l.n (columns_with_entries es));
       values : All (IsValue plus_times) l.counts.items;
       some : All (λ n. n ≢ 0) l.counts.items;
+      room : vec_len l.counts + (l.columns - l.n) ≤ vec_capacity l.counts;
     }

@@ -7,8 +7,8 @@ use Rattle.cb_job_graphs.proofs.graph_inputs.graph_with_sources.Goals as goal
 
 pub returns-in_err-sources-clause-fault : goal.returns-in_err-sources-clause-fault
 returns-in_err-sources-clause-fault g c =
-    let a = c.in_ok-graph.graph in
-    let l = c.in_ok-graph.list in
+    let a = c.in_ok-graph.graph.matrix in
+    let l = c.in_ok-graph.list.matrix in
     let read = c.in_ok-graph.ensures in
     let suits : Suits c.args.task a.shape = subst (Suits c.args.task) c.shape-shape.ensures.shape c.in_ok-check.ensures.ok in
     let list : IsList a.shape.rows l = search rules in

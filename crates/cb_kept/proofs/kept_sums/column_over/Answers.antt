@@ -7,7 +7,7 @@ pub returns : goal.returns
 returns g c = (
   c.in_ok-check_sums.ensures.none,
   record {
-    semiring = c.keep_block.ensures.semiring;
-    column = subst (λ (m : Sparse). IsColumnOf g.S.Semiring.arithmetic c.args.list.now m) (sym c.keep_block.ensures.matrix) c.in_ok-block.ensures;
+    semiring = c.keep_block.ensures.keeps.semiring;
+    column = subst (λ (m : Sparse). IsColumnOf g.S.Semiring.arithmetic c.args.list.now m) (sym c.keep_block.ensures.keeps.matrix) c.in_ok-block.ensures;
   },
 )

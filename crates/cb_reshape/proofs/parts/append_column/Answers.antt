@@ -2,7 +2,8 @@ use Rattle.std.proofs.Common.{◌<◌, ◌≤◌, ◌+◌, ◌-◌, ◌^◌, ◌
 use Rattle.std.proofs.lemmas.List.Elements.{All-map}
 use Rattle.cb_dcsc.specs.Columns.{with_entries}
 use Rattle.cb_dcsc.specs.Compressed.{with_column}
-use Rattle.cb_reshape.proofs.PartOfColumn.{range_all, range_ascends, moved_ascend, column_moved, taken_all}
+use Rattle.cb_dcsc.proofs.Ranges.{range_all, range_ascends, moved_ascend}
+use Rattle.cb_reshape.proofs.PartOfColumn.{column_moved, taken_all}
 use Rattle.cb_reshape.proofs.parts.append_column.Goals as goal
 
 pub fill_moved-requires-clause-above : goal.fill_moved-requires-clause-above

@@ -1,9 +1,0 @@
-use Rattle.cb_ffi.specs.KeptCalls.{IsExtractColumnsCall}
-use Rattle.cb_ffi.proofs.KeptCalls.{kept_call_of}
-use Rattle.cb_ffi.proofs.cbgrid_kernel_kept_extract_columns.Goals as goal
-
-pub returns : goal.returns
-unfolding IsExtractColumnsCall
-returns c =
-    rw (← c.borrowed.ensures) (rw (← c.unless_all-rows.ensures) (rw (← c.unless_all-columns.ensures)
-    (kept_call_of _ _ _ _ _ _ c.kept_extract_columns-answer.ensures c.put_kept.ensures.ok c.put_kept.ensures.refused)))

@@ -1,6 +1,0 @@
-use Rattle.std.specs.Prelude.{option_copied}
-use Rattle.cb_kept.proofs.KeptFirsts.{of_update_columns}
-use Rattle.cb_kept.proofs.kept_updates.kept_update_columns.Goals as goal
-
-pub returns-in-Some : goal.returns-in-Some
-returns-in-Some c = rw c.in-Some.is (of_update_columns c.in-Some.call c.args.old.now c.args.new.now c.args.first c.args.end (option_copied c.args.mask) c.update_call.result c.update_call.ensures)
