@@ -316,10 +316,12 @@ void cbgrid_threads(uint32_t count) {
     thread_count = count < 1 ? 1 : count < CBGRID_MOST_THREADS ? count : CBGRID_MOST_THREADS;
 }
 
-/* The exports that make columns; and the numbers of operations and selections, as crates/cb_kept has them. */
-enum family { OPERATION, SELECTION, OUTSIDE, UPDATE, EXTRACT }; /* an operation, where a call names none */
-enum operation { MULTIPLY, MULTIPLY_MASKED, MULTIPLY_VECTOR, TRANSPOSE, ROW_SUMS, COLUMN_SUMS, ADD, TIMES, PRUNE };
-enum selection { SELECT = 0, APPLY = 4, DIAGONAL = 10, DIAGONAL_MATRIX, PART, KRONECKER, ASSIGN, EXCLUDE, POWER };
+/* The exports that make columns; and the numbers of computations, as crates/cb_operations has them. */
+enum family { COMPUTATION, UPDATE, EXTRACT }; /* a computation, where a call names none */
+enum computation {
+    MULTIPLY, MULTIPLY_MASKED, MULTIPLY_VECTOR, TRANSPOSE, ROW_SUMS, COLUMN_SUMS, ADD, TIMES, PRUNE, SELECT = 11, APPLY = 15,
+    DIAGONAL = 21, DIAGONAL_MATRIX, PART, KRONECKER, ASSIGN, EXCLUDE, POWER, MULTIPLY_OUTSIDE
+};
 
 /* The number of one of several tests, regions or functions, of which the first has the number `first`; or that of none. */
 static uint32_t number_of(uint32_t first, uint32_t count, uint32_t n) {
@@ -329,30 +331,38 @@ static uint32_t number_of(uint32_t first, uint32_t count, uint32_t n) {
 /* A call: its operands, and what else it takes; and where the ranges of its columns end, if threads share it. */
 struct call {
     enum family family;
-    uint32_t number; /* of an operation, or the flags of an update */
+    struct choice choice; /* what is computed */
+    uint32_t flags; /* of an update */
     uint32_t operands; /* how many there have to be, 1 or 2 */
     kept a, b, mask;
-    uint64_t value;
-    struct choice choice;
     const uint32_t *rows, *columns; /* lists of numbers, unless all are meant */
     size_t row_count, column_count;
     uint32_t all_rows, all_columns;
     uint32_t (*ends)(const struct call *it, uint32_t *ends, size_t count);
 };
 
-/* The number of an operation. A product with one column has one of its own, for vectors. */
-static uint32_t operation_of(const struct call *it) {
-    return it->number == MULTIPLY && cbgrid_matrix_ncols(it->b.at) == 1 ? MULTIPLY_VECTOR : it->number;
+/* What is computed of one matrix, or of two. */
+static struct call of_one(struct choice choice, const struct cbgrid_matrix *a) {
+    return (struct call){.choice = choice, .a = {a}};
+}
+static struct call of_two(struct choice choice, const struct cbgrid_matrix *a, const struct cbgrid_matrix *b) {
+    return (struct call){.choice = choice, .operands = 2, .a = {a}, .b = {b}};
+}
+
+/* What is computed. A product with one column has a number of its own, for vectors. */
+static struct choice choice_of(const struct call *it) {
+    struct choice choice = it->choice;
+    if (choice.number == MULTIPLY && cbgrid_matrix_ncols(it->b.at) == 1) choice.number = MULTIPLY_VECTOR;
+    return choice;
 }
 
 /* Makes the columns from `first` up to `end`. An operand that a call doesn't take is never read. */
 static uint32_t make(const struct call *it, uint32_t first, uint32_t end, struct owned *made) {
     kept a = it->a, b = it->b.at ? it->b : a, mask = it->mask.at ? it->mask : a;
+    struct choice choice = choice_of(it);
     switch (it->family) {
-    case OPERATION: return cbgrid_kernel_operation(operation_of(it), it->value, a, b, mask, first, end, made);
-    case SELECTION: return cbgrid_kernel_selection(&it->choice, a, b, first, end, made);
-    case OUTSIDE: return cbgrid_kernel_kept_outside(a, b, mask, first, end, made);
-    case UPDATE: return cbgrid_kernel_kept_update(a, b, it->mask.at != NULL, mask, it->number, first, end, made);
+    case COMPUTATION: return cbgrid_kernel_computation(&choice, a, b, mask, first, end, made);
+    case UPDATE: return cbgrid_kernel_kept_update(a, b, it->mask.at != NULL, mask, it->flags, first, end, made);
     default: break;
     }
     return cbgrid_kernel_kept_extract(a, it->all_rows, it->rows, it->row_count, it->all_columns, it->columns, it->column_count, first,
@@ -416,7 +426,7 @@ static void make_share(void *ranges, size_t n) {
     struct range *it = (struct range *)ranges + n;
     kept a = it->call->a, x = it->call->b.at ? it->call->b : a;
     it->share = (struct slice64){&nothing, 0};
-    it->code = cbgrid_kernel_kept_share(operation_of(it->call), a, x, it->first, it->end, &it->share);
+    it->code = cbgrid_kernel_kept_share(choice_of(it->call).number, a, x, it->first, it->end, &it->share);
 }
 
 static void add_up(void *ranges, size_t n) {
@@ -467,7 +477,8 @@ static uint32_t by_shares(const struct call *it, size_t threads, struct owned *m
 
 /* Whether the result is a sum over the columns of the first operand: the sums of rows, and a product with one column. */
 static int is_sum(const struct call *it, uint32_t columns) {
-    return it->family == OPERATION && (it->number == ROW_SUMS || (it->number == MULTIPLY && columns == 1));
+    uint32_t number = it->choice.number;
+    return it->family == COMPUTATION && (number == ROW_SUMS || (number == MULTIPLY && columns == 1));
 }
 
 /* If the columns can't be parted, one thread does it all: it finds the faults in their order. So it does if they are too few; if
@@ -502,12 +513,18 @@ static uint32_t ends_by_entries(const struct call *it, uint32_t *ends, size_t co
     return cbgrid_kernel_kept_ends(0, a, b, ends, count);
 }
 
+/* Makes the whole result of a call whose ranges of columns have about as many entries. */
+static int shared_by_entries(struct call it, struct cbgrid_matrix **out) {
+    it.ends = ends_by_entries;
+    return shared(it, out);
+}
+
 int cbgrid_matrix_add(const struct cbgrid_matrix *a, const struct cbgrid_matrix *b, struct cbgrid_matrix **out) {
-    return shared((struct call){.number = ADD, .operands = 2, .a = {a}, .b = {b}, .ends = ends_by_entries}, out);
+    return shared_by_entries(of_two((struct choice){.number = ADD}, a, b), out);
 }
 
 int cbgrid_matrix_times(const struct cbgrid_matrix *a, const struct cbgrid_matrix *b, struct cbgrid_matrix **out) {
-    return shared((struct call){.number = TIMES, .operands = 2, .a = {a}, .b = {b}, .ends = ends_by_entries}, out);
+    return shared_by_entries(of_two((struct choice){.number = TIMES}, a, b), out);
 }
 
 /* The ranges of a transpose have as many rows of the operand. Each thread reads all its entries, so few entries aren't shared. */
@@ -520,7 +537,9 @@ static uint32_t ends_by_rows(const struct call *it, uint32_t *ends, size_t count
 }
 
 static struct call transpose_of(const struct cbgrid_matrix *a) {
-    return (struct call){.number = TRANSPOSE, .a = {a}, .ends = ends_by_rows};
+    struct call it = of_one((struct choice){.number = TRANSPOSE}, a);
+    it.ends = ends_by_rows;
+    return it;
 }
 
 int cbgrid_matrix_transpose(const struct cbgrid_matrix *a, struct cbgrid_matrix **out) {
@@ -528,63 +547,30 @@ int cbgrid_matrix_transpose(const struct cbgrid_matrix *a, struct cbgrid_matrix 
 }
 
 int cbgrid_matrix_prune(const struct cbgrid_matrix *a, uint32_t test, uint64_t bound, struct cbgrid_matrix **out) {
-    return shared((struct call){.number = number_of(PRUNE, 3, test), .value = bound, .a = {a}, .ends = ends_by_entries}, out);
-}
-
-/* A selection from one matrix, or from two. */
-static struct call selection_of(struct choice choice, const struct cbgrid_matrix *a) {
-    return (struct call){.family = SELECTION, .choice = choice, .a = {a}};
-}
-static struct call selection_of_two(struct choice choice, const struct cbgrid_matrix *a, const struct cbgrid_matrix *b) {
-    return (struct call){.family = SELECTION, .operands = 2, .choice = choice, .a = {a}, .b = {b}};
+    return shared_by_entries(of_one((struct choice){.number = number_of(PRUNE, 3, test), .value = bound}, a), out);
 }
 
 int cbgrid_matrix_select(const struct cbgrid_matrix *a, uint32_t region, int64_t diagonal, struct cbgrid_matrix **out) {
     /* Diagonal k goes through (0, k) or (-k, 0). No matrix has a place on diagonal CBGRID_LIMIT or beyond. */
     int64_t limit = CBGRID_LIMIT, k = diagonal > limit ? limit : diagonal < -limit ? -limit : diagonal;
     uint32_t row = k < 0 ? (uint32_t)-k : 0, column = k > 0 ? (uint32_t)k : 0;
-    struct call it = selection_of((struct choice){.number = number_of(SELECT, 4, region), .row = row, .column = column}, a);
-    it.ends = ends_by_entries;
-    return shared(it, out);
+    struct choice choice = {.number = number_of(SELECT, 4, region), .row = row, .column = column};
+    return shared_by_entries(of_one(choice, a), out);
 }
 
 int cbgrid_matrix_apply(const struct cbgrid_matrix *a, uint32_t function, uint64_t number, struct cbgrid_matrix **out) {
-    struct call it = selection_of((struct choice){.number = number_of(APPLY, 6, function), .value = number}, a);
-    it.ends = ends_by_entries;
-    return shared(it, out);
+    return shared_by_entries(of_one((struct choice){.number = number_of(APPLY, 6, function), .value = number}, a), out);
 }
 
 int cbgrid_matrix_diagonal(const struct cbgrid_matrix *a, struct cbgrid_matrix **out) {
-    return shared(selection_of((struct choice){.number = DIAGONAL}, a), out);
+    return shared(of_one((struct choice){.number = DIAGONAL}, a), out);
 }
 
 int cbgrid_matrix_diagonal_matrix(const struct cbgrid_matrix *a, struct cbgrid_matrix **out) {
-    return shared(selection_of((struct choice){.number = DIAGONAL_MATRIX}, a), out);
+    return shared(of_one((struct choice){.number = DIAGONAL_MATRIX}, a), out);
 }
 
-int cbgrid_matrix_part(const struct cbgrid_matrix *a, uint32_t row, uint32_t row_end, uint32_t column,
-                       uint32_t column_end, struct cbgrid_matrix **out) {
-    return shared(selection_of((struct choice){PART, row, row_end, column, column_end, 0, 0}, a), out);
-}
-
-int cbgrid_matrix_assign(const struct cbgrid_matrix *a, uint32_t row, uint32_t column,
-                         const struct cbgrid_matrix *part, struct cbgrid_matrix **out) {
-    return shared(selection_of_two((struct choice){.number = ASSIGN, .row = row, .column = column}, a, part), out);
-}
-
-int cbgrid_matrix_exclude(const struct cbgrid_matrix *a, const struct cbgrid_matrix *mask, struct cbgrid_matrix **out) {
-    struct call it = selection_of_two((struct choice){.number = EXCLUDE}, a, mask);
-    it.ends = ends_by_entries;
-    return shared(it, out);
-}
-
-int cbgrid_matrix_update(const struct cbgrid_matrix *a, const struct cbgrid_matrix *b, const struct cbgrid_matrix *mask,
-                         uint32_t flags, struct cbgrid_matrix **out) {
-    struct call it = {.family = UPDATE, .number = flags, .operands = 2, .a = {a}, .b = {b}, .mask = {mask}, .ends = ends_by_entries};
-    return shared(it, out);
-}
-
-/* The ranges of rows and columns by their numbers have as many numbers of columns. A column has as many entries as the others. */
+/* The ranges of a part, or of rows and columns by their numbers, have as many columns. A column has as many entries as the others. */
 static uint32_t ends_by_numbers(const struct call *it, uint32_t *ends, size_t count) {
     if (it->all_columns) return ends_by_entries(it, ends, count);
     size_t numbers = it->column_count;
@@ -594,6 +580,35 @@ static uint32_t ends_by_numbers(const struct call *it, uint32_t *ends, size_t co
     if (used < 2) return 1;
     for (size_t n = 0; n < count; n++) ends[n] = (uint32_t)(n + 1 < used ? numbers * (n + 1) / used : numbers);
     return 0;
+}
+
+int cbgrid_matrix_part(const struct cbgrid_matrix *a, uint32_t row, uint32_t row_end, uint32_t column,
+                       uint32_t column_end, struct cbgrid_matrix **out) {
+    struct call it = of_one((struct choice){PART, row, row_end, column, column_end, 0, 0}, a);
+    it.column_count = column_end > column ? column_end - column : 0;
+    it.ends = ends_by_numbers;
+    return shared(it, out);
+}
+
+/* The ranges have about as many entries of the first operand. */
+static uint32_t ends_by_first(const struct call *it, uint32_t *ends, size_t count) {
+    return cbgrid_kernel_kept_ends(0, it->a, it->a, ends, count);
+}
+
+int cbgrid_matrix_assign(const struct cbgrid_matrix *a, uint32_t row, uint32_t column,
+                         const struct cbgrid_matrix *part, struct cbgrid_matrix **out) {
+    struct call it = of_two((struct choice){.number = ASSIGN, .row = row, .column = column}, a, part);
+    it.ends = ends_by_first;
+    return shared(it, out);
+}
+
+int cbgrid_matrix_exclude(const struct cbgrid_matrix *a, const struct cbgrid_matrix *mask, struct cbgrid_matrix **out) {
+    return shared_by_entries(of_two((struct choice){.number = EXCLUDE}, a, mask), out);
+}
+
+int cbgrid_matrix_update(const struct cbgrid_matrix *a, const struct cbgrid_matrix *b, const struct cbgrid_matrix *mask,
+                         uint32_t flags, struct cbgrid_matrix **out) {
+    return shared_by_entries((struct call){.family = UPDATE, .flags = flags, .operands = 2, .a = {a}, .b = {b}, .mask = {mask}}, out);
 }
 
 int cbgrid_matrix_extract(const struct cbgrid_matrix *a, const uint32_t *rows, size_t row_count,
@@ -628,7 +643,7 @@ static uint32_t ends_by_outer(const struct call *it, uint32_t *ends, size_t coun
 }
 
 int cbgrid_matrix_kron(const struct cbgrid_matrix *a, const struct cbgrid_matrix *b, struct cbgrid_matrix **out) {
-    struct call it = selection_of_two((struct choice){.number = KRONECKER}, a, b);
+    struct call it = of_two((struct choice){.number = KRONECKER}, a, b);
     it.ends = ends_by_outer;
     return shared(it, out);
 }
@@ -643,11 +658,13 @@ static uint32_t ends_of_sums(const struct call *it, uint32_t *ends, size_t count
 }
 
 int cbgrid_matrix_column_sums(const struct cbgrid_matrix *a, struct cbgrid_matrix **out) {
-    return shared((struct call){.number = COLUMN_SUMS, .a = {a}, .ends = ends_of_sums}, out);
+    struct call it = of_one((struct choice){.number = COLUMN_SUMS}, a);
+    it.ends = ends_of_sums;
+    return shared(it, out);
 }
 
 int cbgrid_matrix_row_sums(const struct cbgrid_matrix *a, struct cbgrid_matrix **out) {
-    return shared((struct call){.number = ROW_SUMS, .a = {a}}, out);
+    return shared(of_one((struct choice){.number = ROW_SUMS}, a), out);
 }
 
 int cbgrid_matrix_reduce_all(const struct cbgrid_matrix *a, uint64_t *out) {
@@ -672,9 +689,11 @@ static uint32_t ends_by_products(const struct call *it, uint32_t *ends, size_t c
 
 /* The product that is asked for, of factors that aren't transposed. */
 static struct call product_of(const struct cbgrid_matrix *a, const struct cbgrid_matrix *b, const struct cbgrid_how *how) {
-    enum family family = how->mask && how->complement ? OUTSIDE : OPERATION;
-    return (struct call){.family = family, .number = how->mask ? MULTIPLY_MASKED : MULTIPLY, .a = {a}, .b = {b}, .mask = {how->mask},
-                         .ends = ends_by_products};
+    uint32_t number = !how->mask ? MULTIPLY : how->complement ? MULTIPLY_OUTSIDE : MULTIPLY_MASKED;
+    struct call it = of_two((struct choice){.number = number}, a, b);
+    it.mask.at = how->mask;
+    it.ends = ends_by_products;
+    return it;
 }
 
 /* The first fault of a product of which a factor is to be transposed: no memory is taken for that if there is one. A mask that
@@ -721,7 +740,7 @@ int cbgrid_matrix_multiply(const struct cbgrid_matrix *a, const struct cbgrid_ma
 /* A power by threads: they share each product. These are made in the order that the library makes them in: the product so far, times
  * the matrix. */
 static uint32_t power_by_threads(kept a, uint32_t factors, uint32_t threads, struct owned *made) {
-    struct call it = {.number = MULTIPLY, .a = a, .b = a, .ends = ends_by_products};
+    struct call it = {.choice = {.number = MULTIPLY}, .a = a, .b = a, .ends = ends_by_products};
     uint32_t code = by_threads(&it, threads, made);
     for (uint32_t n = 2; n < factors && !code; n++) {
         struct owned before = *made;
@@ -736,7 +755,7 @@ int cbgrid_matrix_power(const struct cbgrid_matrix *a, uint32_t factors, struct 
     struct owned made = {NULL};
     uint32_t threads = thread_count;
     int is_alone = threads < 2 || factors < 2 || cbgrid_matrix_nrows(a) != cbgrid_matrix_ncols(a);
-    if (!a || !out || is_alone) return shared(selection_of((struct choice){.number = POWER, .factors = factors}, a), out);
+    if (!a || !out || is_alone) return shared(of_one((struct choice){.number = POWER, .factors = factors}, a), out);
     return hand(power_by_threads((kept){a}, factors, threads, &made), made, out);
 }
 

@@ -77,8 +77,8 @@ extern "C" {
 
 /* Sets how many threads each call may use from now on, the caller's among them: at first 1, at most CBGRID_MOST_THREADS; 0 is
  * 1. Products, powers, Kronecker products, sums and products element-wise, prunes, sums of rows, of columns and of all values,
- * transposes, cbgrid_matrix_select, _apply, _extract, _exclude, _update and _triples use them, as far as each thread gets enough to do; the
- * others use the caller's. The library starts threads when it first needs them, and they sleep between calls. */
+ * transposes, cbgrid_matrix_select, _apply, _part, _extract, _assign, _exclude, _update and _triples use them, as far as each thread gets
+ * enough to do; the others use the caller's. The library starts threads when it first needs them, and they sleep between calls. */
 void cbgrid_threads(uint32_t count);
 
 /*
@@ -392,8 +392,9 @@ int cbgrid_matrix_part(const struct cbgrid_matrix *a, uint32_t row, uint32_t row
  * more than CBGRID_LIMIT elements, then CBGRID_PLACE if a doesn't have such a row or column: then the call writes to `at` where
  * the first one is, n for rows[n], or row_count + n for columns[n] (n if it has all rows). A list of length 0, or of all, may be a
  * null pointer. Costs a binary search for each column, the elements of `rows`, and the entries of these columns. If the rows
- * don't ascend, or if a has more than four rows for each of them and for each of these entries, it also costs a binary search
- * for each row, and two transposes. Each of several threads makes as many columns, and reads both lists. */
+ * don't ascend, it also costs a sort of the entries of each column; if a row is repeated, or if a has more than four rows for
+ * each of them and for each of these entries, a binary search for each row, and two transposes. Each of several threads makes as
+ * many columns, and reads both lists. */
 int cbgrid_matrix_extract(const struct cbgrid_matrix *a, const uint32_t *rows, size_t row_count,
                           const uint32_t *columns, size_t column_count, uint64_t *at, struct cbgrid_matrix **out);
 

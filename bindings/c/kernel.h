@@ -83,7 +83,7 @@ struct summary {
     uint32_t nrows, ncols, semiring;
     uint64_t entries;
 };
-/* A selection by its number, and what it takes. */
+/* A computation by its number, and what it takes. */
 struct choice {
     uint32_t number, row, row_end, column, column_end, factors;
     uint64_t value;

@@ -48,12 +48,18 @@ static struct cbgrid_matrix *kept_of(uint32_t semiring, const struct example *it
     return made;
 }
 
-/* The columns of a range of a product, and of one under a mask. Numbers of operations are those of crates/cb_kept. */
+/* The columns of a range of a product, of one under a mask, and of one outside it. Numbers are those of crates/cb_operations. */
 static uint32_t panel_of(kept a, kept b, uint32_t first, uint32_t end, struct owned *made) {
-    return cbgrid_kernel_operation(0, 0, a, b, a, first, end, made);
+    struct choice multiply = {.number = 0};
+    return cbgrid_kernel_computation(&multiply, a, b, a, first, end, made);
 }
 static uint32_t masked_panel_of(kept a, kept b, kept mask, uint32_t first, uint32_t end, struct owned *made) {
-    return cbgrid_kernel_operation(1, 0, a, b, mask, first, end, made);
+    struct choice multiply_masked = {.number = 1};
+    return cbgrid_kernel_computation(&multiply_masked, a, b, mask, first, end, made);
+}
+static uint32_t outside_panel_of(kept a, kept b, kept mask, uint32_t first, uint32_t end, struct owned *made) {
+    struct choice multiply_outside = {.number = 28};
+    return cbgrid_kernel_computation(&multiply_outside, a, b, mask, first, end, made);
 }
 
 static void test_panels(void) {
@@ -106,7 +112,7 @@ static void test_masked_panels(void) {
         uint32_t first = rows[n].first, end = rows[n].end;
         struct owned made_under = {NULL}, made_rest = {NULL};
         EXPECT(masked_panel_of((kept){a}, (kept){b}, (kept){mask}, first, end, &made_under) == CBGRID_OK);
-        EXPECT(cbgrid_kernel_kept_outside((kept){a}, (kept){b}, (kept){mask}, first, end, &made_rest) == CBGRID_OK);
+        EXPECT(outside_panel_of((kept){a}, (kept){b}, (kept){mask}, first, end, &made_rest) == CBGRID_OK);
         EXPECT(is_same(made_under.at, want_under) && is_same(made_rest.at, want_rest));
         struct cbgrid_matrix *all[] = {a, b, mask, want_under, want_rest, made_under.at, made_rest.at};
         for (size_t k = 0; k < sizeof all / sizeof *all; k++) cbgrid_matrix_free(all[k]);
@@ -210,7 +216,7 @@ static void test_codes_of_masked_factors(void) {
         struct owned made = {NULL};
         left = 0;
         EXPECT(masked_panel_of((kept){a}, (kept){b}, (kept){mask}, 0, 1, &made) == rows[n].code);
-        EXPECT(cbgrid_kernel_kept_outside((kept){a}, (kept){b}, (kept){mask}, 0, 1, &made) == rows[n].code);
+        EXPECT(outside_panel_of((kept){a}, (kept){b}, (kept){mask}, 0, 1, &made) == rows[n].code);
         EXPECT(left == 0 && !made.at);
         left = -1;
         cbgrid_matrix_free(a);
@@ -342,10 +348,10 @@ static void test_graphs_in_panels(void) {
 
 /* ---- Each call whose result is a matrix, in ranges of its columns: all of them are the whole, and the parts are joined to it. */
 
-/* The numbers of operations and of selections, and how many other calls there are. */
-#define OPERATIONS 11u
-#define SELECTIONS 17u
-#define OTHERS 5u
+/* How many computations have numbers, and how many other calls there are. */
+#define COMPUTATIONS 29u
+#define OTHERS 4u
+enum { MULTIPLY_VECTOR = 2, DIAGONAL_MATRIX = 22, KRONECKER = 24, ASSIGN, EXCLUDE, POWER };
 
 /* What calls are made of: a square matrix, a mask of its shape, a column, and a matrix that is smaller. */
 struct operands {
@@ -356,17 +362,15 @@ struct operands {
 static uint32_t columns_of(const struct operands *of, uint32_t n, uint32_t first, uint32_t end, struct owned *made) {
     static const uint32_t rows[] = {1, 0, 1, 5}, columns[] = {4, 0, 4};
     kept a = of->square;
-    struct choice choice = {n - OPERATIONS, 1, 3, 1, 4, 3, 2};
-    if (n < OPERATIONS) return cbgrid_kernel_operation(n, 2, a, n == 2 ? of->column : a, of->mask, first, end, made);
-    if (n < OPERATIONS + SELECTIONS) {
-        kept b = choice.number == 13 || choice.number == 14 ? of->small : of->mask;
-        return cbgrid_kernel_selection(&choice, choice.number == 11 ? of->column : a, b, first, end, made);
+    struct choice choice = {n, 1, 3, 1, 4, 3, 2};
+    if (n < COMPUTATIONS) {
+        kept b = n == MULTIPLY_VECTOR ? of->column : n == KRONECKER || n == ASSIGN ? of->small : n == EXCLUDE ? of->mask : a;
+        return cbgrid_kernel_computation(&choice, n == DIAGONAL_MATRIX ? of->column : a, b, of->mask, first, end, made);
     }
-    switch (n - OPERATIONS - SELECTIONS) {
-    case 0: return cbgrid_kernel_kept_outside(a, a, of->mask, first, end, made);
-    case 1: return cbgrid_kernel_kept_update(a, of->mask, 0, a, CBGRID_ACCUMULATE, first, end, made);
-    case 2: return cbgrid_kernel_kept_update(a, of->mask, 1, of->mask, CBGRID_REPLACE | CBGRID_COMPLEMENT, first, end, made);
-    case 3: return cbgrid_kernel_kept_extract(a, 0, rows, 4, 0, columns, 3, first, end, made);
+    switch (n - COMPUTATIONS) {
+    case 0: return cbgrid_kernel_kept_update(a, of->mask, 0, a, CBGRID_ACCUMULATE, first, end, made);
+    case 1: return cbgrid_kernel_kept_update(a, of->mask, 1, of->mask, CBGRID_REPLACE | CBGRID_COMPLEMENT, first, end, made);
+    case 2: return cbgrid_kernel_kept_extract(a, 0, rows, 4, 0, columns, 3, first, end, made);
     default: return cbgrid_kernel_kept_extract(a, 0, rows, 4, 1, columns, 0, first, end, made);
     }
 }
@@ -404,7 +408,7 @@ static void test_ranges(void) {
         random_kept(0, 6, 6, 2), random_kept(0, 6, 6, 2), random_kept(0, 6, 1, 2), random_kept(0, 3, 2, 2),
     };
     struct operands of = {{all[0]}, {all[1]}, {all[2]}, {all[3]}};
-    for (uint32_t n = 0; n < OPERATIONS + SELECTIONS + OTHERS; n++) {
+    for (uint32_t n = 0; n < COMPUTATIONS + OTHERS; n++) {
         struct owned want = {NULL}, same = {NULL};
         EXPECT(columns_of(&of, n, 0, UINT32_MAX, &want) == CBGRID_OK);
         uint32_t columns = cbgrid_matrix_ncols(want.at);
@@ -419,17 +423,17 @@ static void test_ranges(void) {
     EXPECT(live == 0);
 }
 
-/* No operation, selection or sum has another number, and no power has no factors. No memory is taken. */
+/* No computation or sum has another number, and no power has no factors. No memory is taken. */
 static void test_other_numbers(void) {
     struct cbgrid_matrix *a = kept_of(0, &whole);
     struct owned made = {NULL};
     struct slice64 sums = {NULL, 0};
-    struct choice unknown = {.number = SELECTIONS}, power = {.number = SELECTIONS - 1};
+    struct choice unknown[] = {{.number = COMPUTATIONS}, {.number = UINT32_MAX}, {.number = POWER}};
     left = 0;
-    EXPECT(cbgrid_kernel_operation(OPERATIONS, 0, (kept){a}, (kept){a}, (kept){a}, 0, 1, &made) == CBGRID_TEST);
-    EXPECT(cbgrid_kernel_operation(UINT32_MAX, 0, (kept){a}, (kept){a}, (kept){a}, 0, UINT32_MAX, &made) == CBGRID_TEST);
-    EXPECT(cbgrid_kernel_selection(&unknown, (kept){a}, (kept){a}, 0, 1, &made) == CBGRID_TEST);
-    EXPECT(cbgrid_kernel_selection(&power, (kept){a}, (kept){a}, 0, 1, &made) == CBGRID_TEST);
+    for (size_t n = 0; n < sizeof unknown / sizeof *unknown; n++) {
+        EXPECT(cbgrid_kernel_computation(&unknown[n], (kept){a}, (kept){a}, (kept){a}, 0, 1, &made) == CBGRID_TEST);
+        EXPECT(cbgrid_kernel_computation(&unknown[n], (kept){a}, (kept){a}, (kept){a}, 0, UINT32_MAX, &made) == CBGRID_TEST);
+    }
     EXPECT(cbgrid_kernel_kept_share(0, (kept){a}, (kept){a}, 0, 1, &sums) == CBGRID_TEST);
     EXPECT(left == 0 && !made.at && !sums.at);
     left = -1;

@@ -120,6 +120,22 @@ static int upper_of(const struct operands *of, struct cbgrid_matrix **out) {
 static int applied_to(const struct operands *of, struct cbgrid_matrix **out) {
     return cbgrid_matrix_apply(of->a, CBGRID_SUM, 1, out);
 }
+/* All but a corner. */
+static int part_of(const struct operands *of, struct cbgrid_matrix **out) {
+    uint32_t rows = cbgrid_matrix_nrows(of->a), columns = cbgrid_matrix_ncols(of->a);
+    return cbgrid_matrix_part(of->a, rows / 9, rows, columns / 9, columns, out);
+}
+/* The matrix with the half of the other in the middle. */
+static int assigned_to(const struct operands *of, struct cbgrid_matrix **out) {
+    struct cbgrid_matrix *half;
+    if (!of->a || !of->b) return cbgrid_matrix_assign(of->a, 0, 0, of->b, out);
+    uint32_t rows = cbgrid_matrix_nrows(of->a), columns = cbgrid_matrix_ncols(of->a);
+    int code = cbgrid_matrix_part(of->b, 0, rows / 2, 0, columns / 2, &half);
+    if (code) return code;
+    code = cbgrid_matrix_assign(of->a, rows / 3, columns / 3, half, out);
+    cbgrid_matrix_free(half);
+    return code;
+}
 static int excluded_of(const struct operands *of, struct cbgrid_matrix **out) {
     return cbgrid_matrix_exclude(of->a, of->b, out);
 }
@@ -179,12 +195,12 @@ static int power_of(const struct operands *of, struct cbgrid_matrix **out) {
 }
 
 enum {
-    PRODUCT, SUM, TIMES, PRUNED, COLUMN_SUMS, ROW_SUMS, VECTOR, TOTAL, TURNED, UPPER, APPLIED, EXCLUDED, UPDATED, UPDATED_UNDER,
-    BOTH, TURNED_ROWS, COLUMNS, ROWS, ALL, KRONECKER, POWER, TRIPLES, CALLS
+    PRODUCT, SUM, TIMES, PRUNED, COLUMN_SUMS, ROW_SUMS, VECTOR, TOTAL, TURNED, UPPER, APPLIED, PART, ASSIGNED, EXCLUDED, UPDATED,
+    UPDATED_UNDER, BOTH, TURNED_ROWS, COLUMNS, ROWS, ALL, KRONECKER, POWER, TRIPLES, CALLS
 };
 static int (*const calls[CALLS])(const struct operands *of, struct cbgrid_matrix **out) = {
     product_of, sum_of,    times_of, pruned_of, column_sums_of, row_sums_of, vector_of,
-    total_of,   turned_of, upper_of, applied_to, excluded_of,   updated_of,  updated_under,
+    total_of,   turned_of, upper_of, applied_to, part_of, assigned_to, excluded_of,   updated_of,  updated_under,
     both_of, turned_rows_of, columns_of, rows_of, all_of, kronecker_of, power_of, triples_of,
 };
 

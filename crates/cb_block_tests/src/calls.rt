@@ -7,15 +7,15 @@ use cb_dcsc::Block;
 use cb_elementwise::{add, mask, prune, times};
 use cb_masked::{multiply_masked, multiply_outside};
 use cb_matrix::{Entry, LIMIT, Test};
-use cb_operations::{Function, Region, Selection};
+use cb_operations::{Computation, ComputeFault, Function, Region, Selection};
 use cb_product::multiply;
 use cb_reshape::{column_sums, place, row_sums, transpose};
 use cb_samples::{SampleFault, block, shape};
 use cb_selections::{
-    SelectionFault, WriteBack, compute, extract, extract_between, extract_columns, extract_rows,
-    multiply_turned, update,
+    WriteBack, extract, extract_between, extract_columns, extract_rows, multiply_turned, update,
 };
 use cb_semirings::PlusTimes;
+use cb_serial::compute;
 use std::alloc::{AllocError, Global};
 use std::num::NonZeroU32;
 
@@ -85,13 +85,14 @@ fn selection_of(call: &Call<'_>) -> Option<Selection> {
 
 /// A selection from some blocks.
 fn selected(alloc: Global, selection: Selection, operands: &[&Block<PlusTimes>]) -> Made {
-    if operands.len() != selection.operand_count() {
+    let computation = Computation::Selection(selection);
+    if operands.len() != computation.operand_count() {
         return Err(SampleFault::Shape);
     }
-    match compute(alloc, selection, operands) {
+    match compute(alloc, computation, operands) {
         Ok(block) => Ok(block),
-        Err(SelectionFault::Refused(_)) => Err(SampleFault::Shape),
-        Err(SelectionFault::Memory) => Err(AllocError.into()),
+        Err(ComputeFault::Refused(_)) => Err(SampleFault::Shape),
+        Err(ComputeFault::Memory) => Err(AllocError.into()),
     }
 }
 

@@ -1,7 +1,12 @@
 //! Worked examples, with ample memory and with each allocation refused in turn.
 use crate::calls::{Call, Case, Given, are_right, are_right_or_refused};
-use cb_matrix::{LIMIT, Test};
-use cb_samples::entries;
+use crate::samples::{is_computed, is_right_or_refused};
+use cb_matrix::{Entry, LIMIT, Test};
+use cb_operations::{Computation, Operation};
+use cb_samples::{SampleFault, block, entries, entry};
+use cb_semirings::PlusTimes;
+use cb_serial::compute;
+use std::alloc::{AllocError, Global};
 
 const TOP: u64 = u64::MAX;
 
@@ -368,7 +373,77 @@ const PRUNED: &[Case<'static>] = &[
     (Call::Prune(Test::Below(1)), &[FAR_NONE], FAR_NONE),
 ];
 
-const TABLES: &[&[Case<'static>]] = &[SUMS_AND_PRODUCTS, MASKS, COLUMNS, FAR_LONGER, PRUNED];
+/// Columns of which one lies wholly in front of the other: in adjacent rows, and with rows between. In the last column the first
+/// row of one is the last of the other.
+const UPPER: Given<'static> = (
+    (8, 3),
+    entries![
+        (0, 0, 1),
+        (1, 0, 2),
+        (2, 0, 3),
+        (1, 1, 4),
+        (0, 2, 5),
+        (3, 2, 6)
+    ],
+);
+
+const LOWER: Given<'static> = (
+    (8, 3),
+    entries![
+        (3, 0, 10),
+        (6, 0, 20),
+        (7, 0, 30),
+        (7, 1, 40),
+        (3, 2, 50),
+        (5, 2, 60)
+    ],
+);
+
+const BOTH_LAYERS: Given<'static> = (
+    (8, 3),
+    entries![
+        (0, 0, 1),
+        (1, 0, 2),
+        (2, 0, 3),
+        (3, 0, 10),
+        (6, 0, 20),
+        (7, 0, 30),
+        (1, 1, 4),
+        (7, 1, 40),
+        (0, 2, 5),
+        (3, 2, 56),
+        (5, 2, 60)
+    ],
+);
+
+const APART: &[Case<'static>] = &[
+    (Call::Add, &[UPPER, LOWER], BOTH_LAYERS),
+    (Call::Add, &[LOWER, UPPER], BOTH_LAYERS),
+    (
+        Call::Times,
+        &[UPPER, LOWER],
+        ((8, 3), entries![(3, 2, 300)]),
+    ),
+    (Call::Mask, &[LOWER, UPPER], ((8, 3), entries![(3, 2, 50)])),
+    (
+        Call::Exclude,
+        &[UPPER, LOWER],
+        (
+            (8, 3),
+            entries![(0, 0, 1), (1, 0, 2), (2, 0, 3), (1, 1, 4), (0, 2, 5)],
+        ),
+    ),
+    (
+        Call::Exclude,
+        &[LOWER, UPPER],
+        (
+            (8, 3),
+            entries![(3, 0, 10), (6, 0, 20), (7, 0, 30), (7, 1, 40), (5, 2, 60)],
+        ),
+    ),
+];
+
+const TABLES: &[&[Case<'static>]] = &[SUMS_AND_PRODUCTS, MASKS, COLUMNS, FAR_LONGER, PRUNED, APART];
 
 #[test]
 fn sums_products_masks_and_prunings(rt: HostRuntime) {
@@ -380,4 +455,35 @@ fn sums_products_masks_and_prunings(rt: HostRuntime) {
 #[test]
 fn refused_memory_is_reported(rt: HostRuntime) {
     assert!(rt; are_right_or_refused(rt.alloc(), TABLES));
+}
+
+/// How many columns the layers have.
+const MANY: u32 = 1000;
+
+/// Entries in some rows of each column.
+fn layer(alloc: Global, rows: (u32, u32)) -> Result<Vec<Entry>, AllocError> {
+    let mut entries = Vec::new(alloc);
+    for column in 0..MANY {
+        for row in rows.0..rows.1 {
+            entries.push(entry(row, column, 1 + u64::from(row)))?;
+        }
+    }
+    Ok(entries)
+}
+
+/// Whether two layers, of which one lies wholly in front of the other in each column, are added in both orders.
+fn layers_are_added(alloc: Global) -> Result<bool, SampleFault> {
+    let upper = block::<PlusTimes>(alloc, 7, MANY, &layer(alloc, (0, 3))?)?;
+    let lower = block::<PlusTimes>(alloc, 7, MANY, &layer(alloc, (3, 7))?)?;
+    let both = layer(alloc, (0, 7))?;
+    let add = Computation::Operation(Operation::Add);
+    let are_right = is_computed(compute(alloc, add, &[&upper, &lower]), &both)?;
+    let are_turned_right = is_computed(compute(alloc, add, &[&lower, &upper]), &both)?;
+    Ok(are_right && are_turned_right)
+}
+
+/// Passes whichever single allocation is refused.
+#[test]
+fn thousands_of_entries_are_added(rt: HostRuntime) {
+    assert!(rt; is_right_or_refused(layers_are_added(rt.alloc())));
 }

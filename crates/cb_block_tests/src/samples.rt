@@ -1,8 +1,9 @@
 //! How the tests write entries, and tests that `cb_samples` makes the blocks that it is asked for or reports why not.
 use cb_dcsc::{Block, BlockFault};
+use cb_operations::ComputeFault;
 use cb_samples::{SampleFault, block, entries, entry};
 use cb_semirings::{OrAnd, PlusTimes, Semiring};
-use std::alloc::Global;
+use std::alloc::{AllocError, Global};
 
 /// Whether a block has exactly these entries.
 pub(crate) fn has_entries<S: Semiring>(block: &Block<S>, wanted: &[cb_matrix::Entry]) -> bool {
@@ -28,6 +29,18 @@ pub(crate) fn are_same<S: Semiring>(left: &Block<S>, right: &Block<S>) -> bool {
         }
     }
     true
+}
+
+/// Whether what was computed has these entries.
+pub(crate) fn is_computed(
+    made: Result<Block<PlusTimes>, ComputeFault>,
+    wanted: &[cb_matrix::Entry],
+) -> Result<bool, SampleFault> {
+    match made {
+        Ok(block) => Ok(has_entries(&block, wanted)),
+        Err(ComputeFault::Refused(_)) => Ok(false),
+        Err(ComputeFault::Memory) => Err(AllocError.into()),
+    }
 }
 
 /// Whether a result is right, or its error is want of memory.

@@ -1,6 +1,6 @@
 -- Two columns joined, entry by entry.
 use Rattle.std.proofs.Common.{◌≡◌, ◌≢◌, ℕ, zero, suc, ◌+◌, ◌-◌, ◌<◌, ◌≤◌, true, false, cond, Bool, List, [], ◌∷◌, ◌++◌, length, take, drop, get_or, sym, refl, ap, ◌∙◌, ⊎_elim, arith, subst, length-take}
-use Rattle.std.specs.Prelude.{All, not, ◌==◌, nat_lt}
+use Rattle.std.specs.Prelude.{All, AllPairs, not, ◌==◌, nat_lt}
 use Rattle.std.specs.Int.{from_bool}
 use Rattle.std.proofs.lemmas.Bool.Decides.{nat_tests}
 use Rattle.std.proofs.lemmas.Bool.{cases_Bool, cases_eq, cases_lt, cond-true, cond-false, eq-eqb, ne_eqb, eqb-true, false≢true}
@@ -141,10 +141,10 @@ module _ (s : Arithmetic) (laws : IsSemiring s) (f : ℕ → ℕ → ℕ) (ls lv
             ∙ sym (λ t. f (front s ls lvs left x l i t) ((front s rs rvs right y m i ∙ ap (λ a. cond (a == i) (get_or rvs y 0) (row_value s.zero (take y rs) (take y rvs) i)) (sym same)) t));
       }
 
-  -- the rest of the left column, once the right one has ended
-  pub left_rest : (n x y : ℕ) (ks ws : List ℕ) (k : Bool) → x + n ≡ length ls → (x < length ls → length rs ≤ y) → ((v : ℕ) → IsValue s v → f v s.zero ≡ cond k v s.zero)
+  -- the rest of the left column, which is before the rest of the right one
+  pub left_rest : (n x y : ℕ) (ks ws : List ℕ) (k : Bool) → x + n ≡ length ls → ((m : ℕ) → x ≤ m → m < length ls → y < length rs → get_or ls m 0 < get_or rs y 0) → ((v : ℕ) → IsValue s v → f v s.zero ≡ cond k v s.zero)
       → IsJoinedTo s f ls lvs rs rvs x y ks ws → IsJoinedTo s f ls lvs rs rvs (length ls) y (ks ++ where_kept k (drop x ls)) (ws ++ where_kept k (drop x lvs))
-  left_rest zero x y ks ws k whole ended made h =
+  left_rest zero x y ks ws k whole before made h =
       let e = left.same_length in
       let end : x ≡ length ls = omega arith in
       let no_rows : ks ++ where_kept k (drop x ls) ≡ ks = ap (λ xs. ks ++ xs) (ap (where_kept k) (drop_all x ls (omega arith)) ∙ nothing k) ∙ append-nil ks in
@@ -154,12 +154,12 @@ module _ (s : Arithmetic) (laws : IsSemiring s) (f : ℕ → ℕ → ℕ) (ls lv
       nothing : (b : Bool) → where_kept {T = ℕ} b [] ≡ []
       nothing true = refl
       nothing false = refl
-  left_rest (suc n) x y ks ws k whole ended made h =
+  left_rest (suc n) x y ks ws k whole before made h =
       let e = left.same_length in
       let l : x < length ls = omega arith in
       let l' : x < length lvs = omega arith in
-      let next = left_more x y ks ws k l (λ m. let e = ended l in absurd (omega arith)) (made (get_or lvs x 0) (value_here s ls lvs left x l)) h in
-      let all = left_rest n (x + 1) y (ks ++ where_kept k (get_or ls x 0 ∷ [])) (ws ++ where_kept k (get_or lvs x 0 ∷ [])) k (omega arith) (λ _. ended l) made next in
+      let next = left_more x y ks ws k l (before x (omega arith) l) (made (get_or lvs x 0) (value_here s ls lvs left x l)) h in
+      let all = left_rest n (x + 1) y (ks ++ where_kept k (get_or ls x 0 ∷ [])) (ws ++ where_kept k (get_or lvs x 0 ∷ [])) k (omega arith) (λ m a b. before m (omega arith) b) made next in
       let rows : (ks ++ where_kept k (get_or ls x 0 ∷ [])) ++ where_kept k (drop (x + 1) ls) ≡ ks ++ where_kept k (drop x ls) = joined_rest k ks (get_or ls x 0) (drop (x + 1) ls) (drop x ls) (drop_more ls x 0 l) in
       let values : (ws ++ where_kept k (get_or lvs x 0 ∷ [])) ++ where_kept k (drop (x + 1) lvs) ≡ ws ++ where_kept k (drop x lvs) = joined_rest k ws (get_or lvs x 0) (drop (x + 1) lvs) (drop x lvs) (drop_more lvs x 0 l') in
       subst (λ vs. IsJoinedTo s f ls lvs rs rvs (length ls) y (ks ++ where_kept k (drop x ls)) vs) values (subst (λ xs. IsJoinedTo s f ls lvs rs rvs (length ls) y xs ((ws ++ where_kept k (get_or lvs x 0 ∷ [])) ++ where_kept k (drop (x + 1) lvs))) rows all)
@@ -183,12 +183,12 @@ module _ (s : Arithmetic) (laws : IsSemiring s) (f : ℕ → ℕ → ℕ) (ls lv
       turned s (λ p q. f q p) rs rvs ls lvs (y + 1) x (ks ++ where_kept k (get_or rs y 0 ∷ [])) (ws ++ where_kept k (get_or rvs y 0 ∷ []))
       (left_more s laws (λ p q. f q p) rs rvs ls lvs right left y x ks ws k l alone made (turned s f ls lvs rs rvs x y ks ws h))
 
-  -- the rest of the right column, once the left one has ended
-  pub right_rest : (n x y : ℕ) (ks ws : List ℕ) (k : Bool) → y + n ≡ length rs → (y < length rs → length ls ≤ x) → ((v : ℕ) → IsValue s v → f s.zero v ≡ cond k v s.zero)
+  -- the rest of the right column, which is before the rest of the left one
+  pub right_rest : (n x y : ℕ) (ks ws : List ℕ) (k : Bool) → y + n ≡ length rs → ((m : ℕ) → y ≤ m → m < length rs → x < length ls → get_or rs m 0 < get_or ls x 0) → ((v : ℕ) → IsValue s v → f s.zero v ≡ cond k v s.zero)
       → IsJoinedTo s f ls lvs rs rvs x y ks ws → IsJoinedTo s f ls lvs rs rvs x (length rs) (ks ++ where_kept k (drop y rs)) (ws ++ where_kept k (drop y rvs))
-  right_rest n x y ks ws k whole ended made h =
+  right_rest n x y ks ws k whole before made h =
       turned s (λ p q. f q p) rs rvs ls lvs (length rs) x (ks ++ where_kept k (drop y rs)) (ws ++ where_kept k (drop y rvs))
-      (left_rest s laws (λ p q. f q p) rs rvs ls lvs right left n y x ks ws k whole ended made (turned s f ls lvs rs rvs x y ks ws h))
+      (left_rest s laws (λ p q. f q p) rs rvs ls lvs right left n y x ks ws k whole before made (turned s f ls lvs rs rvs x y ks ws h))
 
   module _ (left_made : Bool) (right_made : Bool) (made_left : (v : ℕ) → IsValue s v → f v s.zero ≡ cond left_made v s.zero) (made_right : (v : ℕ) → IsValue s v → f s.zero v ≡ cond right_made v s.zero) (x y : ℕ) (ks ws : List ℕ) (l : x < length ls) (m : y < length rs) (h : IsJoinedTo s f ls lvs rs rvs x y ks ws) where
     -- one more entry of the column with the lower row, which b tells
@@ -213,8 +213,8 @@ module _ (s : Arithmetic) (laws : IsSemiring s) (f : ℕ → ℕ → ℕ) (ls lv
   rest_joined x y ks ws ks' ws' left_kept right_kept ended made_left made_right kse wse h =
       let left_in = h.left_within in
       let right_in = h.right_within in
-      let first = left_rest s laws f ls lvs rs rvs left right (length ls - x) x y ks ws left_kept (omega arith) ended made_left h in
-      rw (kse, wse) (right_rest (length rs - y) (length ls) y (ks ++ where_kept left_kept (drop x ls)) (ws ++ where_kept left_kept (drop x lvs)) right_kept (omega arith) (λ _. omega arith) made_right first)
+      let first = left_rest s laws f ls lvs rs rvs left right (length ls - x) x y ks ws left_kept (omega arith) (λ m a b c. let e = ended (omega arith) in absurd (omega arith)) made_left h in
+      rw (kse, wse) (right_rest (length rs - y) (length ls) y (ks ++ where_kept left_kept (drop x ls)) (ws ++ where_kept left_kept (drop x lvs)) right_kept (omega arith) (λ m a b c. absurd (omega arith)) made_right first)
 
 -- a value that is kept unless it is zero
 pub kept_some : (v z z' : ℕ) → z' ≡ z → not (v == z') ≡ true → v ≢ z
@@ -283,3 +283,22 @@ module _ (s : Arithmetic) (laws : IsSemiring s) (f : ℕ → ℕ → ℕ) (ls lv
       → IsJoinedTo s f ls lvs rs rvs x y ks ws → IsJoinedTo s f ls lvs rs rvs x y' ks ws
   right_passed_over dropped x y y' ks ws more within below h =
       turned s (λ p q. f q p) rs rvs ls lvs y' x ks ws (left_passed_over s laws (λ p q. f q p) rs rvs ls lvs right left dropped y x y' ks ws more within below (turned s f ls lvs rs rvs x y ks ws h))
+
+-- ---- two columns of which one is wholly in front of the other
+-- each row is before a bound that the last one is before
+all_before : (ls : List ℕ) (bound : ℕ) → AllPairs (λ i j. i < j) ls → get_or ls (length ls - 1) 0 < bound → (m : ℕ) → m < length ls → get_or ls m 0 < bound
+all_before ls bound up last m l = ⊎_elim
+    (λ (b : m < length ls - 1). let less : get_or ls m 0 < get_or ls (length ls - 1) 0 = up m (length ls - 1) 0 b (omega arith) in omega arith)
+    (λ (b : length ls - 1 ≤ m). let e : length ls - 1 ≡ m = omega arith in subst (λ k. get_or ls k 0 < bound) e last)
+    (cases_lt m (length ls - 1))
+
+module _ (s : Arithmetic) (laws : IsSemiring s) (f : ℕ → ℕ → ℕ) (zeros : f s.zero s.zero ≡ s.zero) (ls lvs rs rvs : List ℕ) (left : IsSparseColumn s ls lvs) (right : IsSparseColumn s rs rvs) (k : Bool) (ks ws ks' ws' : List ℕ) (no_rows : ks ≡ []) (no_values : ws ≡ []) where
+  -- the left one
+  pub left_first : ((v : ℕ) → IsValue s v → f v s.zero ≡ cond k v s.zero) → get_or ls (length ls - 1) 0 < get_or rs 0 0 → ks' ≡ ks ++ where_kept k ls → ws' ≡ ws ++ where_kept k lvs → IsJoinedTo s f ls lvs rs rvs (length ls) 0 ks' ws'
+  left_first made below kse wse =
+      rw (kse, wse) (left_rest s laws f ls lvs rs rvs left right (length ls) 0 0 ks ws k (omega arith) (λ m a b c. all_before ls (get_or rs 0 0) left.ascending below m b) made (joined_none s laws f ls lvs rs rvs left right zeros ks ws no_rows no_values))
+
+  -- the right one
+  pub right_first : ((v : ℕ) → IsValue s v → f s.zero v ≡ cond k v s.zero) → get_or rs (length rs - 1) 0 < get_or ls 0 0 → ks' ≡ ks ++ where_kept k rs → ws' ≡ ws ++ where_kept k rvs → IsJoinedTo s f ls lvs rs rvs 0 (length rs) ks' ws'
+  right_first made below kse wse =
+      rw (kse, wse) (right_rest s laws f ls lvs rs rvs left right (length rs) 0 0 ks ws k (omega arith) (λ m a b c. all_before rs (get_or ls 0 0) right.ascending below m b) made (joined_none s laws f ls lvs rs rvs left right zeros ks ws no_rows no_values))

@@ -2,7 +2,7 @@
 //!
 //! Where both columns have entries left, the lower of the two rows is next. Which of the two it is can't be predicted, so it is
 //! picked without a branch.
-ghost use Rattle.std.specs.Prelude.{◌≡◌, ℕ, ◌+◌, ◌-◌, ◌<◌, ◌≤◌, ◌++◌, ◌∷◌, [], cond, length, drop, slice_index, AllPairs, OnOk, vec_len, vec_capacity};
+ghost use Rattle.std.specs.Prelude.{◌≡◌, ℕ, IsTrue, ◌+◌, ◌-◌, ◌<◌, ◌≤◌, ◌++◌, ◌∷◌, [], cond, length, drop, slice_index, AllPairs, OnOk, vec_len, vec_capacity};
 ghost use Rattle.cb_semirings.specs.Arithmetic.{IsValue};
 ghost use Rattle.cb_product.specs.SparseColumn.{IsSparseColumn};
 ghost use Rattle.cb_elementwise.specs.JoinedColumns.{IsJoined, IsJoinedTo, where_kept};
@@ -18,8 +18,8 @@ const LONG: usize = 16;
 /// Fills the two lists with the rows and values of two columns joined by a rule.
 ///
 /// Costs a few instructions for each entry of the two, or, where entries of one column alone are dropped and one column is far
-/// longer, for each entry of the shorter one a search of the next row. Once one column has ended, the rest of the other is
-/// copied or left out whole.
+/// longer, for each entry of the shorter one a search of the next row. A column that lies wholly in front of the other, and the
+/// rest of a column once the other has ended, are copied or left out whole.
 pub(crate) fn join_columns<S: Semiring, R: Rule<S>>(
     kept_rows: &mut Vec<u32>,
     kept_values: &mut Vec<u64>,
@@ -55,8 +55,8 @@ pub(crate) fn join_columns<S: Semiring, R: Rule<S>>(
     keep_rest(kept_values, right_values, y, keeps_right)
 }
 
-/// Joins the entries of two columns until one column has ended, and returns how many entries of each are joined. The two lists
-/// are empty and have room.
+/// Joins the entries of two columns until one column has ended, and returns how many entries of each are joined. A column that
+/// lies wholly in front of the other is copied whole. The two lists are empty and have room.
 fn join_fronts<S: Semiring, R: Rule<S>>(
     kept_rows: &mut Vec<u32>,
     kept_values: &mut Vec<u64>,
@@ -76,6 +76,20 @@ fn join_fronts<S: Semiring, R: Rule<S>>(
     ensures ended { result.0 < length left_rows.now → length right_rows.now ≤ result.1 }
 {
     let (keeps_left, keeps_right) = (rule.keeps_left(), rule.keeps_right());
+    if are_below(left_rows, right_rows) {
+        keep_all(kept_rows, kept_values, left_rows, left_values, keeps_left);
+        return (left_rows.len(), 0);
+    }
+    if are_below(right_rows, left_rows) {
+        keep_all(
+            kept_rows,
+            kept_values,
+            right_rows,
+            right_values,
+            keeps_right,
+        );
+        return (0, right_rows.len());
+    }
     if !keeps_left && !keeps_right && is_far_longer(left_rows, right_rows) {
         return find_fronts(
             kept_rows,
@@ -96,6 +110,49 @@ fn join_fronts<S: Semiring, R: Rule<S>>(
         right_values,
         rule,
     )
+}
+
+/// Whether both columns have rows, and the last of the first comes before the first of the second.
+#[inline(always)]
+fn are_below(rows: &[u32], others: &[u32]) -> bool
+    ensures { IsTrue result → slice_index rows.now (length rows.now - 1) < slice_index others.now 0 }
+{
+    if rows.is_empty() || others.is_empty() {
+        return false;
+    }
+    rows[rows.len() - 1] < others[0]
+}
+
+/// Appends a column to two lists that have room for it, if it is kept.
+#[inline(always)]
+fn keep_all(
+    kept_rows: &mut Vec<u32>,
+    kept_values: &mut Vec<u64>,
+    rows: &[u32],
+    values: &[u64],
+    is_kept: bool,
+)
+    requires rows_room { vec_len kept_rows.old + length rows.now ≤ vec_capacity kept_rows.old }
+    requires values_room { vec_len kept_values.old + length values.now ≤ vec_capacity kept_values.old }
+    ensures rows { kept_rows.new.items ≡ kept_rows.old.items ++ where_kept is_kept rows.now }
+    ensures values { kept_values.new.items ≡ kept_values.old.items ++ where_kept is_kept values.now }
+{
+    if is_kept {
+        extend_reserved(kept_rows, rows);
+        extend_reserved(kept_values, values);
+    }
+}
+
+/// Appends items to a list that has room for them.
+#[inline(always)]
+fn extend_reserved<T: Copy>(list: &mut Vec<T>, items: &[T])
+    requires { vec_len list.old + length items.now ≤ vec_capacity list.old }
+    ensures { list.new.items ≡ list.old.items ++ items.now }
+{
+    match list.extend_from_slice(items) {
+        Ok(()) => {}
+        Err(_) => unreachable!(),
+    }
 }
 
 /// Whether one of two lists is far longer than the other.

@@ -1,29 +1,29 @@
 -- What C gets of a call that keeps a matrix.
-use Rattle.std.specs.Prelude.{◌≡◌, ◌≢◌, ℕ, ◌==◌, ◌⊎◌, Bool, List, cond, length, take, Option, None, Some, IfSome}
+use Rattle.std.specs.Prelude.{◌≡◌, ◌≢◌, ℕ, ◌==◌, ◌⊎◌, Bool, List, cond, length, take, Option, None, Some, option_map, IfSome}
 use Rattle.std.specs.Borrow.{MutBor}
 use Rattle.cb_semirings.specs.Names.{arithmetic_of, numbered}
 use Rattle.cb_semirings.specs.Arithmetic.{Arithmetic}
 use Rattle.cb_semirings.specs.declared.names.SemiringName.{SemiringName}
 use Rattle.cb_operations.specs.declared.graphs.GraphTask.{GraphTask}
 use Rattle.cb_operations.specs.declared.operations.Operation.{Operation}
-use Rattle.cb_operations.specs.declared.selections.Selection.{Selection}
-use Rattle.cb_operations.specs.OperationAnswers.{operand_count_of}
-use Rattle.cb_operations.specs.SelectionAnswers as selections
+use Rattle.cb_operations.specs.declared.computations.Computation.{Computation}
+use Rattle.cb_operations.specs.declared.computations.Computation.TheVariants as computation_is
+use Rattle.cb_operations.specs.Computations.{answer_of, operand_count_of}
 use Rattle.cb_lists.specs.declared.lists.Columns.{Columns}
 use Rattle.cb_kept.specs.declared.triples.Triple.{Triple}
 use Rattle.cb_kept.specs.declared.faults.Fault.{Fault}
 use Rattle.cb_kept.specs.declared.faults.Fault.TheVariants.{Memory}
 use Rattle.cb_kept.specs.declared.kept.Kept.{Kept}
 use Rattle.cb_kept.specs.Refusals.{code_of, over, read_faults, list_faults}
-use Rattle.cb_kept.specs.declared.choices.Choice.{Choice}
-use Rattle.cb_kept.specs.Choices.{IsChosen}
-use Rattle.cb_kept.specs.KeptAnswers.{kept_faults, HasMade, OverName, IsKeptOf}
+use Rattle.cb_operations.specs.declared.numbers.Choice.{Choice}
+use Rattle.cb_operations.specs.Numbers.{IsChosen}
+use Rattle.cb_kept.specs.KeptAnswers.{numbered_faults, HasColumns, OverName, IsKeptOf}
 use Rattle.cb_kept.specs.Kept.{matrix_in, semiring_of}
-use Rattle.cb_kept.specs.KeptSelections.{selection_faults, HasSelected, number_faults, IsKeptExtract}
+use Rattle.cb_kept.specs.CallsOver.{operation_faults, refusal_faults}
+use Rattle.cb_kept.specs.KeptExtracts.{number_faults, IsKeptExtract}
 use Rattle.cb_kept.specs.KeptTurned.{turned_faults, IsKeptTurned}
 use Rattle.cb_selections.specs.declared.updates.WriteBack.{WriteBack}
-use Rattle.cb_kept.specs.KeptUpdates.{update_faults, HasUpdated}
-use Rattle.cb_kept.specs.KeptProducts.{outside_faults, IsKeptOutside}
+use Rattle.cb_kept.specs.KeptUpdates.{shape_faults, update_of}
 use Rattle.cb_shares.specs.Shares.{AreEnds}
 use Rattle.cb_kept.specs.KeptPanels.{join_faults, IsKeptJoin}
 use Rattle.cb_kept.specs.KeptShares.{factor_faults, pair_faults}
@@ -50,32 +50,29 @@ abbrev pub IsKeptCallOver : ℕ → (Arithmetic → Fault → Type 0) → (Arith
 IsKeptCallOver semiring faults is =
     IsKeptCall (over (numbered semiring) faults) (λ k. OverName (numbered semiring) (λ name. is (arithmetic_of name) name k))
 
--- how many matrices an operation, or a selection, takes; one of an unknown number takes none
-abbrev pub count_of : Option Operation → ℕ
+-- how many matrices a computation, or a sum, takes; one of an unknown number takes none
+abbrev pub count_of : Option Computation → ℕ
 count_of None = 0
-count_of (Some operation) = operand_count_of operation
+count_of (Some computation) = operand_count_of computation
 
-abbrev pub selection_count_of : Option Selection → ℕ
-selection_count_of None = 0
-selection_count_of (Some selection) = selections.operand_count_of selection
+abbrev pub sum_count_of : Option Operation → ℕ
+sum_count_of operation = count_of (option_map computation_is.Operation operation)
 
--- what C gets of a call that keeps columns of an operation's result, of a share of a sum, and of a selection. The call is given at
--- least as many matrices as it takes.
-unfoldable pub IsOperationCall : Option Operation → ℕ → ℕ → List Kept → ℕ → Owned → Owned → Type 0
-IsOperationCall operation first end given code old new =
-    let ks = take (count_of operation) given in IsKeptCall (kept_faults operation ks) (HasMade operation first end ks) code old new
+-- what C gets of a call that keeps columns of a computation's result, and of a share of a sum. The call is given at least as many
+-- matrices as it takes.
+unfoldable pub IsComputationCall : Option Computation → ℕ → ℕ → List Kept → ℕ → Owned → Owned → Type 0
+IsComputationCall computation first end given code old new =
+    let ks = take (count_of computation) given in
+    IsKeptCall (numbered_faults refusal_faults computation ks) (HasColumns answer_of computation first end ks) code old new
 
 unfoldable pub IsShareCall : Option Operation → ℕ → ℕ → List Kept → ℕ → Sums → Sums → Type 0
 IsShareCall operation first end given code old new =
-    let ks = take (count_of operation) given in IsCall (kept_faults operation ks) (IsKeptShare operation first end ks) code old new
+    let ks = take (sum_count_of operation) given in
+    IsCall (numbered_faults operation_faults operation ks) (IsKeptShare operation first end ks) code old new
 
-unfoldable pub IsSelectionCall : Option Selection → ℕ → ℕ → List Kept → ℕ → Owned → Owned → Type 0
-IsSelectionCall selection first end given code old new =
-    let ks = take (selection_count_of selection) given in IsKeptCall (selection_faults selection ks) (HasSelected selection first end ks) code old new
-
--- the same of the selection of a choice
+-- the same of the computation of a choice
 abbrev pub IsChoiceCall : Choice → ℕ → ℕ → List Kept → ℕ → Owned → Owned → Type 0
-IsChoiceCall choice first end given code old new = (o : Option Selection) × IsChosen choice o × IsSelectionCall o first end given code old new
+IsChoiceCall choice first end given code old new = (o : Option Computation) × IsChosen choice o × IsComputationCall o first end given code old new
 
 -- a list, unless all numbers are meant: those of a number other than 0
 abbrev pub unless_all : ℕ → List ℕ → Option (List ℕ)
@@ -95,12 +92,9 @@ abbrev pub if_masked : ℕ → Kept → Option Kept
 if_masked masked mask = cond (masked == 0) None (Some mask)
 
 -- the same of a kept matrix updated by another, under a mask if there is one
-unfoldable pub IsUpdateCall : Option WriteBack → ℕ → ℕ → Kept → Kept → Option Kept → ℕ → Owned → Owned → Type 0
-IsUpdateCall how first end a b mask code old new = IsKeptCall (update_faults how a b mask) (HasUpdated how first end a b mask) code old new
-
--- the same of a product outside a mask
-unfoldable pub IsOutsideCall : ℕ → ℕ → Kept → Kept → Kept → ℕ → Owned → Owned → Type 0
-IsOutsideCall first end a b mask code old new = IsKeptCall (outside_faults a b mask) (IsKeptOutside first end a b mask) code old new
+unfoldable pub IsUpdateCall : Option WriteBack → ℕ → ℕ → List Kept → ℕ → Owned → Owned → Type 0
+IsUpdateCall how first end ks code old new =
+    IsKeptCall (numbered_faults (λ _. shape_faults) how ks) (HasColumns update_of how first end ks) code old new
 
 -- C owns this kept matrix; or memory for it was refused, and C has what it had
 abbrev pub HasHandedOut : ℕ → Owned → Owned → Kept → Type 0

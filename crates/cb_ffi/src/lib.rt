@@ -1,4 +1,4 @@
-//! The kernel for programs in C: operations on kept sparse matrices.
+//! The kernel for programs in C: computations on kept sparse matrices.
 //!
 //! A kept matrix ([`Owned`], [`Lent`]) is a matrix over one semiring, behind an opaque pointer, in a panel for each thread that
 //! made some of it. A call takes kept matrices, reads a single panel where it is and most of several from a copy in one block,
@@ -17,8 +17,8 @@
 //! whole result.
 //!
 //! Each call works on the caller's thread. A program with threads divides the columns of a result ([`cbgrid_kernel_kept_ends`]),
-//! makes those of a range in each thread ([`cbgrid_kernel_operation`], [`cbgrid_kernel_selection`] and so on), and joins them in
-//! order ([`cbgrid_kernel_kept_join`]). Where the result is a sum over the columns of the first matrix, each thread makes a share of
+//! makes those of a range in each thread ([`cbgrid_kernel_computation`] and so on), and joins them in order
+//! ([`cbgrid_kernel_kept_join`]). Where the result is a sum over the columns of the first matrix, each thread makes a share of
 //! the sum ([`cbgrid_kernel_kept_share`], [`cbgrid_kernel_kept_total`]), and the program adds these up in order
 //! ([`cbgrid_kernel_kept_add_share`]).
 #![tactic(auto)]
@@ -29,30 +29,29 @@ ghost use Rattle.cb_matrix.specs.Sparse.{at};
 ghost use Rattle.cb_operations.specs.Operands.{lent_in};
 ghost use Rattle.cb_lists.specs.Lists.{HasLists};
 ghost use Rattle.cb_shares.specs.Sums.{IsSumOfColumns};
-ghost use Rattle.cb_kept.specs.Choices.{operation_of, sum_of};
+ghost use Rattle.cb_kept.specs.KeptSums.{sum_of};
 ghost use Rattle.cb_kept.specs.Refusals.{code_of, IsMemory, first_over};
 ghost use Rattle.cb_kept.specs.Kept.{matrix_in, semiring_of};
 ghost use Rattle.cb_kept.specs.KeptAnswers.{IsSummary};
 ghost use Rattle.cb_kept.specs.KeptGraphs.{graph_task_of};
 ghost use Rattle.cb_kept.specs.KeptSums.{IsTotal};
-ghost use Rattle.cb_kept.specs.KeptUpdates.{write_back_of};
+ghost use Rattle.cb_kept.specs.KeptUpdates.{operands_of, write_back_of};
 ghost use Rattle.cb_kept.specs.KeptTexts.{IsKeptText};
 ghost use Rattle.cb_kept.specs.Misfits.{IsFirst, IsFrom, IsMisfitOfLists, IsMisfitOfTriples};
 ghost use Rattle.cb_ffi.specs.Calls.{IsCall, IsLine};
-ghost use Rattle.cb_ffi.specs.KeptCalls.{HasHandedOut, HasWritten, IsAddCall, IsChoiceCall, IsColumnCall, IsEndsCall, IsEntryEndsCall, IsExtractCall, IsGraphCall, IsJoinCall, IsKeepCall, IsOperationCall, IsOutsideCall, IsOwnedJoinCall, IsProductEndsCall, IsReadCall, IsSelectionCall, IsShareCall, IsTransposeCall, IsTriplesCall, IsTurnedCall, IsUpdateCall, count_of, if_masked, selection_count_of, unless_all};
+ghost use Rattle.cb_ffi.specs.KeptCalls.{HasHandedOut, HasWritten, IsAddCall, IsChoiceCall, IsColumnCall, IsComputationCall, IsEndsCall, IsEntryEndsCall, IsExtractCall, IsGraphCall, IsJoinCall, IsKeepCall, IsOwnedJoinCall, IsProductEndsCall, IsReadCall, IsShareCall, IsTransposeCall, IsTriplesCall, IsTurnedCall, IsUpdateCall, count_of, if_masked, sum_count_of, unless_all};
 
 mod handles;
 
 use cb_kept::{
-    Choice, Fault, Kept, KeptAnswer, KeptMatrix, Summary, Sums, Text, Triple, first_outside,
-    graph_task_of, keep_lists, keep_triples, kept_add_share, kept_column_of_sums, kept_ends,
-    kept_entry_ends, kept_extract, kept_graph, kept_join, kept_operation, kept_outside,
-    kept_selection, kept_share_of_sum, kept_total, kept_turned_product, kept_update, lists_of,
-    misfit_of_lists, misfit_of_triples, operation_of, read_kept, selection_of, sum_of, summary_of,
-    text_of, value_at, write_back_of,
+    Fault, Kept, KeptAnswer, KeptMatrix, Summary, Sums, Text, Triple, first_outside, graph_task_of,
+    keep_lists, keep_triples, kept_add_share, kept_column_of_sums, kept_computation, kept_ends,
+    kept_entry_ends, kept_extract, kept_graph, kept_join, kept_share_of_sum, kept_total,
+    kept_turned_product, kept_update, lists_of, misfit_of_lists, misfit_of_triples, read_kept,
+    sum_of, summary_of, text_of, value_at, write_back_of,
 };
 use cb_lists::Columns;
-use cb_operations::{Operation, Selection};
+use cb_operations::{Choice, Computation, Operation};
 use cb_selections::WriteBack;
 pub use handles::{Lent, Owned};
 use handles::{borrowed, borrowed_with_transpose, hand_out, take_back};
@@ -108,9 +107,19 @@ fn put_answer(
     }
 }
 
-/// How many matrices an operation takes. One of an unknown number takes none.
-fn count_of(operation: Option<Operation>) -> usize
-    ensures { result ≡ count_of operation }
+/// How many matrices a computation takes. One of an unknown number takes none.
+fn count_of(computation: Option<Computation>) -> usize
+    ensures { result ≡ count_of computation }
+{
+    match computation {
+        Some(known) => known.operand_count(),
+        None => 0,
+    }
+}
+
+/// How many matrices the operation of a sum takes.
+fn sum_count_of(operation: Option<Operation>) -> usize
+    ensures { result ≡ sum_count_of operation }
 {
     match operation {
         Some(known) => known.operand_count(),
@@ -118,47 +127,20 @@ fn count_of(operation: Option<Operation>) -> usize
     }
 }
 
-/// How many matrices a selection takes.
-fn selection_count_of(selection: Option<Selection>) -> usize
-    ensures { result ≡ selection_count_of selection }
-{
-    match selection {
-        Some(known) => known.operand_count(),
-        None => 0,
-    }
-}
-
-/// Keeps columns of the result of an operation on the first of some kept matrices, or returns the number of the fault.
-fn operation_kept(
+/// Keeps columns of what is computed of the first of some kept matrices, or returns the number of the fault.
+fn computation_kept(
     alloc: Global,
-    operation: Option<Operation>,
+    computation: Option<Computation>,
     given: &[&Kept],
     first: u32,
     end: u32,
     out: &mut Owned,
 ) -> u32
-    requires { count_of operation ≤ length given.now }
-    ensures { IsOperationCall operation first end (lent_in given.now) result out.old out.new }
+    requires { count_of computation ≤ length given.now }
+    ensures { IsComputationCall computation first end (lent_in given.now) result out.old out.new }
 {
-    let operands = &given[..count_of(operation)];
-    let answer = kept_operation(alloc, operation, operands, first, end);
-    put_kept(alloc, out, answer)
-}
-
-/// Keeps columns of a selection from the first of some kept matrices, or returns the number of the fault.
-fn selection_kept(
-    alloc: Global,
-    selection: Option<Selection>,
-    given: &[&Kept],
-    first: u32,
-    end: u32,
-    out: &mut Owned,
-) -> u32
-    requires { selection_count_of selection ≤ length given.now }
-    ensures { IsSelectionCall selection first end (lent_in given.now) result out.old out.new }
-{
-    let operands = &given[..selection_count_of(selection)];
-    let answer = kept_selection(alloc, selection, operands, first, end);
+    let operands = &given[..count_of(computation)];
+    let answer = kept_computation(alloc, computation, operands, first, end);
     put_kept(alloc, out, answer)
 }
 
@@ -188,7 +170,7 @@ fn update_kept(
     end: u32,
     out: &mut Owned,
 ) -> u32
-    ensures { IsUpdateCall how first end old.now new.now (option_copied mask.entry) result out.old out.new }
+    ensures { IsUpdateCall how first end (operands_of old.now new.now (option_copied mask.entry)) result out.old out.new }
 {
     let answer = kept_update(alloc, how, old, new, mask, first, end);
     put_kept(alloc, out, answer)
@@ -235,14 +217,12 @@ fn share_kept(
     out: &mut Sums,
 ) -> u32
     requires sum { IfSome operation IsSumOfColumns }
-    requires count { count_of operation ≤ length given.now }
+    requires count { sum_count_of operation ≤ length given.now }
     ensures { IsShareCall operation first end (lent_in given.now) result out.old out.new }
 {
-    let operands = &given[..count_of(operation)];
-    put(
-        out,
-        kept_share_of_sum(alloc, operation, operands, first, end),
-    )
+    let operands = &given[..sum_count_of(operation)];
+    let answer = kept_share_of_sum(alloc, operation, operands, first, end);
+    put(out, answer)
 }
 
 /// Adds a list to another, or returns the number of the fault.
@@ -311,62 +291,25 @@ pub extern "C" fn cbgrid_kernel_keep(
     put_kept(alloc, out, keep_lists(alloc, semiring, a))
 }
 
-/// Keeps the columns from `first` up to, but not including, `end` of the result of the operation of a number ([`operation_of`]),
-/// in the shape of the whole result; the whole result, if these are all its columns. Prunes compare with `value`. It reads as
-/// many of the matrices as the operation takes; any kept matrix may stand for another.
+/// Keeps the columns from `first` up to, but not including, `end` of what is computed of kept matrices by a choice
+/// ([`Computation::chosen`]), in the shape of the whole result; the whole result, if these are all its columns. It reads as many of
+/// the matrices as the computation takes; any kept matrix may stand for another.
 #[unsafe(no_mangle)]
-pub extern "C" fn cbgrid_kernel_operation(
-    alloc: Global,
-    number: u32,
-    value: u64,
-    a: Lent,
-    b: Lent,
-    mask: Lent,
-    first: u32,
-    end: u32,
-    out: &mut Owned,
-) -> u32
-    ensures { IsOperationCall (operation_of number value) first end (a.kept.now ∷ b.kept.now ∷ mask.kept.now ∷ []) result out.old out.new }
-{
-    let operation = operation_of(number, value);
-    let given = [borrowed(a), borrowed(b), borrowed(mask)];
-    operation_kept(alloc, operation, &given, first, end, out)
-}
-
-/// Keeps such columns of a selection from kept matrices ([`selection_of`]). It reads `b` only if the selection takes two.
-#[unsafe(no_mangle)]
-pub extern "C" fn cbgrid_kernel_selection(
+pub extern "C" fn cbgrid_kernel_computation(
     alloc: Global,
     choice: &Choice,
     a: Lent,
     b: Lent,
+    c: Lent,
     first: u32,
     end: u32,
     out: &mut Owned,
 ) -> u32
-    ensures { IsChoiceCall choice.now first end (a.kept.now ∷ b.kept.now ∷ []) result out.old out.new }
+    ensures { IsChoiceCall choice.now first end (a.kept.now ∷ b.kept.now ∷ c.kept.now ∷ []) result out.old out.new }
 {
-    let selection = selection_of(choice);
-    let given = [borrowed(a), borrowed(b)];
-    selection_kept(alloc, selection, &given, first, end, out)
-}
-
-/// Keeps such columns of the product of two kept matrices at the places where a mask has no entries.
-#[unsafe(no_mangle)]
-pub extern "C" fn cbgrid_kernel_kept_outside(
-    alloc: Global,
-    a: Lent,
-    b: Lent,
-    mask: Lent,
-    first: u32,
-    end: u32,
-    out: &mut Owned,
-) -> u32
-    ensures { IsOutsideCall first end a.kept.now b.kept.now mask.kept.now result out.old out.new }
-{
-    let (a, b, mask) = (borrowed(a), borrowed(b), borrowed(mask));
-    let answer = kept_outside(alloc, a, b, mask, first, end);
-    put_kept(alloc, out, answer)
+    let computation = Computation::chosen(choice);
+    let given = [borrowed(a), borrowed(b), borrowed(c)];
+    computation_kept(alloc, computation, &given, first, end, out)
 }
 
 /// A list of numbers, unless all are meant.
@@ -445,7 +388,7 @@ pub extern "C" fn cbgrid_kernel_kept_update(
     end: u32,
     out: &mut Owned,
 ) -> u32
-    ensures { IsUpdateCall (write_back_of flags) first end a.kept.now b.kept.now (if_masked masked mask.kept.now) result out.old out.new }
+    ensures { IsUpdateCall (write_back_of flags) first end (operands_of a.kept.now b.kept.now (if_masked masked mask.kept.now)) result out.old out.new }
 {
     let (how, a, b) = (write_back_of(flags), borrowed(a), borrowed(b));
     let allowed = if_masked(masked, mask);

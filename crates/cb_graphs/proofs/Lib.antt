@@ -1,3 +1,4 @@
+-- TaskRefusals: a task that is refused isn't taken.
 -- For this crate alone. Undirected: the sum of a matrix and its transpose. Trees: trees of vertices. FlatTrees: trees in which all paths are short. Joined: the roots of trees
 -- that span the graph are the least vertices of components. Counting: sums over ranges and over lists. AnyOrder: joined
 -- triples are counted alike in every order. Listed: numbers that lists have in common. Later: orders of places. GrownLists:
@@ -17,3 +18,4 @@ pub mod Beside
 pub mod Apexes
 pub mod DegreeCounts
 pub mod RowCounts
+pub mod TaskRefusals

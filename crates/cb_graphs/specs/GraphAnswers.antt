@@ -1,14 +1,20 @@
--- The answer of each task on a graph.
-use Rattle.std.specs.Prelude.{◌≡◌, ℕ, ◌≤◌, List, [], length}
-use Rattle.cb_semirings.specs.Tables.{min_plus, or_and, plus_times}
+-- The answer of each task on a graph, and why there is none.
+use Rattle.std.specs.Prelude.{◌≡◌, ◌⊎◌, ℕ, ◌<◌, ◌≤◌, List, [], length}
+use Rattle.cb_semirings.specs.Arithmetic.{Arithmetic}
+use Rattle.cb_semirings.specs.Tables.{min_plus, plus_times}
 use Rattle.cb_matrix.specs.declared.TheConstants.{LIMIT}
 use Rattle.cb_matrix.specs.Sparse.{Sparse, Extent, IsMatrix}
 use Rattle.cb_matrix.specs.Values.{empty_matrix}
+use Rattle.cb_operations.specs.declared.graphs.Beside.{Beside}
 use Rattle.cb_operations.specs.declared.graphs.Beside.TheVariants as beside_is
 use Rattle.cb_operations.specs.declared.graphs.GraphTask.{GraphTask}
 use Rattle.cb_operations.specs.declared.graphs.GraphTask.TheVariants.{Levels, Distances, LevelsFrom, DistancesFrom, LevelsGiven, DistancesGiven}
 use Rattle.cb_operations.specs.declared.graphs.GraphTask.TheVariants.{Parents, Components, Triangles, TriangleCounts, RowDegrees, ColumnDegrees}
-use Rattle.cb_operations.specs.Graphs.{AreVertices, HasColumn, beside_of}
+use Rattle.cb_operations.specs.declared.refusals.ComputeFault.{ComputeFault}
+use Rattle.cb_operations.specs.declared.refusals.ComputeFault.TheVariants.{Refused, Memory}
+use Rattle.cb_operations.specs.declared.refusals.Refusal.{Refusal}
+use Rattle.cb_operations.specs.declared.refusals.Refusal.TheVariants.{TooLarge}
+use Rattle.cb_operations.specs.Graphs.{AreVertices, HasColumn, IsRefusal, IsSourcesRefusal, IsValuesRefusal, Suits}
 use Rattle.cb_searches.specs.Walks.{AreLevels, AreDistances}
 use Rattle.cb_searches.specs.SeveralSources.{AreLevelsFrom, AreDistancesFrom}
 use Rattle.cb_searches.specs.GivenNumbers.{AreLevelsGiven, AreDistancesGiven}
@@ -33,6 +39,12 @@ value_of Nothing = NoOperand
 value_of (Sources sources) = SourceList sources.now
 value_of (Values values) = ValueColumn values.now
 
+-- which of the three it is
+abbrev pub kind_of : OperandValue → Beside
+kind_of NoOperand = beside_is.Nothing
+kind_of (SourceList sources) = beside_is.Sources
+kind_of (ValueColumn values) = beside_is.Values
+
 -- the sources of an operand, and its initial values
 abbrev pub sources_in : OperandValue → List ℕ
 sources_in (SourceList sources) = sources
@@ -42,44 +54,45 @@ abbrev pub values_in : OperandValue → Sparse
 values_in (ValueColumn values) = values
 values_in _ = empty_matrix (record { rows = 0; cols = 0 })
 
--- an operand is what a task takes beside a graph of some shape; no more sources than a matrix can have columns
-abbrev pub Fits : GraphTask → Extent → OperandValue → Type 0
-Fits task d NoOperand = beside_of task ≡ beside_is.Nothing
-Fits task d (SourceList sources) = (beside_of task ≡ beside_is.Sources) × (length sources ≤ LIMIT) × AreVertices d sources
-Fits task d (ValueColumn values) = (beside_of task ≡ beside_is.Values) × HasColumn d values.shape
+-- ---- refusals
+-- an operand can be taken beside a graph of some shape: sources are vertices, and no more than a matrix can have columns
+abbrev pub Fits : Extent → OperandValue → Type 0
+Fits d NoOperand = Unit {0}
+Fits d (SourceList sources) = (length sources ≤ LIMIT) × AreVertices d sources
+Fits d (ValueColumn values) = HasColumn d values.shape
 
--- ---- the answer is of one kind, with a property
-abbrev pub IsNumbers : (Sparse → Type 0) → GraphAnswer → Type 0
-IsNumbers is_right (Numbers column) = IsMatrix min_plus column × is_right column
-IsNumbers is_right _ = ⊥
+-- why it can't be
+abbrev pub IsUnfit : Extent → OperandValue → Refusal → Type 0
+IsUnfit d NoOperand refusal = ⊥
+IsUnfit d (SourceList sources) refusal =
+    ((refusal ≡ TooLarge) × (LIMIT < length sources)) ⊎ ((length sources ≤ LIMIT) × IsSourcesRefusal d sources refusal)
+IsUnfit d (ValueColumn values) refusal = IsValuesRefusal d values.shape refusal
 
-abbrev pub IsColumns : (Sparse → Type 0) → GraphAnswer → Type 0
-IsColumns is_right (Columns m) = IsMatrix min_plus m × is_right m
-IsColumns is_right _ = ⊥
+-- a task takes a graph of some shape and an operand
+abbrev pub IsTaken : GraphTask → Extent → OperandValue → Type 0
+IsTaken task d operand = Suits task d × Fits d operand
 
-abbrev pub IsVertices : (Sparse → Type 0) → GraphAnswer → Type 0
-IsVertices is_right (Vertices column) = IsMatrix min_plus column × is_right column
-IsVertices is_right _ = ⊥
+-- the graph is refused, or else the operand; or neither is, and memory was
+abbrev pub IsFaultOf : GraphTask → Extent → OperandValue → ComputeFault → Type 0
+IsFaultOf task d operand (Refused refusal) = IsRefusal task d refusal ⊎ (Suits task d × IsUnfit d operand refusal)
+IsFaultOf task d operand Memory = IsTaken task d operand
 
-abbrev pub IsCounts : (Sparse → Type 0) → GraphAnswer → Type 0
-IsCounts is_right (Counts column) = IsMatrix plus_times column × is_right column
-IsCounts is_right _ = ⊥
+-- ---- answers
+-- the answer is a matrix of one kind, over a semiring, with a property
+abbrev pub IsOfKind : (Sparse → GraphAnswer) → Arithmetic → (Sparse → Type 0) → GraphAnswer → Type 0
+IsOfKind kind s is_right answer = (m : Sparse) × (answer ≡ kind m) × IsMatrix s m × is_right m
 
-abbrev pub IsCount : ℕ → GraphAnswer → Type 0
-IsCount n (Count count) = count ≡ n
-IsCount n _ = ⊥
-
--- the answer of a task on the graph of a matrix, with an operand that it takes
-abbrev pub IsAnswerOf : GraphTask → Sparse → OperandValue → GraphAnswer → Type 0
-IsAnswerOf (Levels source) a _ = IsNumbers (AreLevels a source)
-IsAnswerOf (Distances source) a _ = IsNumbers (AreDistances a source)
-IsAnswerOf LevelsFrom a operand = IsColumns (AreLevelsFrom a (sources_in operand))
-IsAnswerOf DistancesFrom a operand = IsColumns (AreDistancesFrom a (sources_in operand))
-IsAnswerOf LevelsGiven a operand = IsNumbers (AreLevelsGiven a (values_in operand))
-IsAnswerOf DistancesGiven a operand = IsNumbers (AreDistancesGiven a (values_in operand))
-IsAnswerOf (Parents source) a _ = IsVertices (AreParents a source)
-IsAnswerOf Components a _ = IsVertices (AreComponents a)
-IsAnswerOf Triangles a _ = IsCount (stopped (triangle_count a))
-IsAnswerOf TriangleCounts a _ = IsCounts (AreTriangleCounts a)
-IsAnswerOf RowDegrees a _ = IsCounts (λ column. column ≡ row_degrees or_and a)
-IsAnswerOf ColumnDegrees a _ = IsCounts (λ column. column ≡ column_degrees or_and a)
+-- the answer of a task on the graph of a matrix over a semiring, with an operand that it takes
+abbrev pub IsAnswerOf : Arithmetic → GraphTask → Sparse → OperandValue → GraphAnswer → Type 0
+IsAnswerOf s (Levels source) a _ = IsOfKind Numbers min_plus (AreLevels a source)
+IsAnswerOf s (Distances source) a _ = IsOfKind Numbers min_plus (AreDistances a source)
+IsAnswerOf s LevelsFrom a operand = IsOfKind Columns min_plus (AreLevelsFrom a (sources_in operand))
+IsAnswerOf s DistancesFrom a operand = IsOfKind Columns min_plus (AreDistancesFrom a (sources_in operand))
+IsAnswerOf s LevelsGiven a operand = IsOfKind Numbers min_plus (AreLevelsGiven a (values_in operand))
+IsAnswerOf s DistancesGiven a operand = IsOfKind Numbers min_plus (AreDistancesGiven a (values_in operand))
+IsAnswerOf s (Parents source) a _ = IsOfKind Vertices min_plus (AreParents a source)
+IsAnswerOf s Components a _ = IsOfKind Vertices min_plus (AreComponents a)
+IsAnswerOf s Triangles a _ = λ answer. answer ≡ Count (stopped (triangle_count a))
+IsAnswerOf s TriangleCounts a _ = IsOfKind Counts plus_times (AreTriangleCounts a)
+IsAnswerOf s RowDegrees a _ = IsOfKind Counts plus_times (λ column. column ≡ row_degrees s a)
+IsAnswerOf s ColumnDegrees a _ = IsOfKind Counts plus_times (λ column. column ≡ column_degrees s a)

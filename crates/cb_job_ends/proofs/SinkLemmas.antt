@@ -2,9 +2,9 @@
 use Rattle.std.proofs.Common.{◌≡◌, ℕ, ◌+◌, List, ◌++◌, None, Some, Option, ap, sym, ◌∙◌, append_assoc, take, drop, subst, length, ◌-◌, [], min, arith, append-nil}
 use Rattle.std.proofs.lemmas.List.{take_rest, take_min, take-append-le}
 use Rattle.std.proofs.Math.Seq.{take-add, take-append-add}
-use Rattle.std.specs.Prelude.{Result, Ok, Err, OnErr}
+use Rattle.std.specs.Prelude.{Bool, true, Result, Ok, Err, IsErrAnd}
 use Rattle.std.specs.Io.KnownBytes.{Appends}
-use Rattle.cb_job_ends.specs.Sinks.{AppendsPrefix}
+use Rattle.cb_job_ends.specs.Sinks.{AppendsPrefix, IsPut}
 
 -- two runs of puts, one after the other
 pub Appends-trans : (a b c : Option (List ℕ)) (bs cs : List ℕ) → Appends a b bs → Appends b c cs → Appends a c (bs ++ cs)
@@ -40,7 +40,8 @@ prefix_page a b c done page before after text p q e w =
     ap (take (length done + m)) (sym w ∙ ap (λ l. done ++ l) e) ∙ take-append-add done (page ++ after) m ∙ ap (λ l. done ++ l) (front ∙ short) in
     (length done + m, subst (Appends a c) (sym whole) (Appends-trans a b c done (take q.0 page) p q.1))
 
--- what holds anyway holds at an error
-pub on_err : {T E P : Type 0} (r : Result T E) → P → OnErr r P
-on_err (Ok x) p = tt
-on_err (Err e) p = p
+-- a put that fails ends a call that puts a text, if a beginning of the text was written
+pub put_stopped : {T E : Type 0} (Q : E → Type 0) {text : List ℕ} {before after : Option (List ℕ)} {has_failed : Bool} (r : Result T E) → IsErrAnd r Q
+    → AppendsPrefix before after text → has_failed ≡ true → IsPut text before after has_failed r
+put_stopped Q (Ok x) is p f = absurd is
+put_stopped Q (Err e) is p f = record { whole = tt; works = tt; prefix = p; fails = f }

@@ -1,9 +1,16 @@
 -- How a call that writes a text ends.
 use Rattle.std.specs.Prelude.{ℕ, ◌≡◌, ◌≢◌, ◌⊎◌, List, ◌↔◌, Bool, true, Option, Result, Ok, Err, OnOk, IfErr, IsErrOf}
 use Rattle.cb_job_ends.specs.declared.faults.JobFault.{JobFault}
-use Rattle.cb_job_ends.specs.declared.faults.JobFault.TheVariants.{Memory, Output}
+use Rattle.cb_job_ends.specs.declared.faults.JobFault.TheVariants.{Refused, Memory, Output}
+use Rattle.cb_operations.specs.declared.refusals.ComputeFault.{ComputeFault}
+use Rattle.cb_operations.specs.declared.refusals.ComputeFault.TheVariants as compute_fault
 use Rattle.std.specs.Io.KnownBytes.{Appends, Keeps}
 use Rattle.cb_job_ends.specs.Sinks.{AppendsPrefix}
+
+-- the fault of a job whose answer wasn't computed
+abbrev pub told_of : ComputeFault → JobFault
+told_of (compute_fault.Refused refusal) = Refused refusal
+told_of compute_fault.Memory = Memory
 
 -- why an answer wasn't written whole
 abbrev pub IsUnwritten : JobFault → Type 0

@@ -2,7 +2,7 @@
 ghost use Rattle.std.specs.Prelude.{◌≡◌};
 
 use cb_market_lines::ReadFault;
-use cb_operations::{Refusal, SelectionRefusal};
+use cb_operations::{ComputeFault, Refusal};
 use cb_rank_faults::RanksFault;
 use std::alloc::AllocError;
 use thiserror::Error;
@@ -16,12 +16,9 @@ pub enum JobFault {
     /// The text of file `which` isn't a matrix, or memory was refused while it was read.
     #[error("file {which}: {fault}")]
     Read { which: usize, fault: ReadFault },
-    /// The shapes of the operands don't agree, the matrix of a graph isn't square, or the source isn't a vertex.
+    /// The operation, the selection or the task on a graph is refused for these matrices.
     #[error("{0}")]
     Refused(Refusal),
-    /// The selection can't be made from the matrix, the part doesn't fit into it, or the Kronecker product is too large.
-    #[error("{0}")]
-    Unselected(SelectionRefusal),
     /// The job asks for ranks, and they failed, though not for lack of memory: that is `Memory`.
     #[error("{0}")]
     Ranks(RanksFault),
@@ -43,13 +40,16 @@ impl From<Refusal> for JobFault {
     }
 }
 
-impl From<SelectionRefusal> for JobFault {
-    ghost use Rattle.cb_job_ends.specs.declared.faults.JobFault.TheVariants.{Unselected};
+impl From<ComputeFault> for JobFault {
+    ghost use Rattle.cb_job_ends.specs.WriteEnds.{told_of};
 
-    ghost from_gives = { λ refusal told. told ≡ Unselected refusal };
+    ghost from_gives = { λ fault told. told ≡ told_of fault };
 
-    fn from(refusal: SelectionRefusal) -> JobFault {
-        JobFault::Unselected(refusal)
+    fn from(fault: ComputeFault) -> JobFault {
+        match fault {
+            ComputeFault::Refused(refusal) => JobFault::Refused(refusal),
+            ComputeFault::Memory => JobFault::Memory,
+        }
     }
 }
 

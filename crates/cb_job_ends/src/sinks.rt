@@ -1,8 +1,8 @@
 //! Sinks, to which the answer and the text of a fault are written.
-ghost use Rattle.std.specs.Prelude.{◌≡◌, ◌≤◌, ◌<◌, ◌+◌, ◌||◌, ℕ, List, Bool, length, true, false, IfOk, OnOk, OnErr, IsErr, Option, Some, None};
-ghost use Rattle.std.specs.Io.KnownBytes.{Appends, WriteAppends};
+ghost use Rattle.std.specs.Prelude.{◌≡◌, ◌≤◌, ◌<◌, ◌+◌, ◌||◌, ℕ, List, Bool, length, true, false, IfOk, IsErr, Option, Some, None};
+ghost use Rattle.std.specs.Io.KnownBytes.{WriteAppends};
 ghost use Rattle.std.specs.Io.{WritesAtMost};
-ghost use Rattle.cb_job_ends.specs.Sinks.{put_failed, AppendsPrefix};
+ghost use Rattle.cb_job_ends.specs.Sinks.{put_failed, IsPut};
 
 use std::io::Write;
 
@@ -87,10 +87,7 @@ impl<W: Write + Drop> Sink for WriterSink<W> {
 /// Writes the whole text, by as many puts as it takes. At `PutFault` a beginning of it has been written.
 pub fn put_all<K: Sink>(out: &mut K, text: &[u8]) -> Result<(), PutFault>
     requires { K.has_failed out.old ≡ false }
-    ensures whole { OnOk result (Appends (K.written out.old) (K.written out.new) text.now) }
-    ensures works { OnOk result (K.has_failed out.new ≡ false) }
-    ensures prefix { OnErr result (AppendsPrefix (K.written out.old) (K.written out.new) text.now) }
-    ensures fails { OnErr result (K.has_failed out.new ≡ true) }
+    ensures { IsPut text.now (K.written out.old) (K.written out.new) (K.has_failed out.new) result }
 {
     let mut at = 0;
     while at < text.len() {

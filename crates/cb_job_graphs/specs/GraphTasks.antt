@@ -9,19 +9,20 @@ use Rattle.cb_market_pages.specs.Text.{number_line, text_of, vertex_text_of, ver
 use Rattle.cb_operations.specs.declared.graphs.Beside.{Beside}
 use Rattle.cb_operations.specs.declared.graphs.Beside.TheVariants.{Nothing, Sources, Values}
 use Rattle.cb_operations.specs.declared.graphs.GraphTask.{GraphTask}
+use Rattle.cb_operations.specs.declared.refusals.ComputeFault.{ComputeFault}
+use Rattle.cb_operations.specs.declared.refusals.ComputeFault.TheVariants as compute_fault
 use Rattle.cb_operations.specs.declared.refusals.Refusal.{Refusal}
 use Rattle.cb_operations.specs.declared.refusals.Refusal.TheVariants.{Source}
-use Rattle.cb_operations.specs.declared.refusals.SelectionRefusal.TheVariants.{NotColumn}
-use Rattle.cb_operations.specs.Graphs.{HasColumn, IsRefusal, IsValuesRefusal, Suits, beside_of, semiring_of}
+use Rattle.cb_operations.specs.Graphs.{IsRefusal, Suits, beside_of, semiring_of}
 use Rattle.cb_graphs.specs.declared.graph_tasks.GraphAnswer.{GraphAnswer}
 use Rattle.cb_graphs.specs.declared.graph_tasks.GraphAnswer.TheVariants.{Numbers, Columns, Vertices, Counts, Count}
-use Rattle.cb_graphs.specs.GraphAnswers.{OperandValue, NoOperand, SourceList, ValueColumn, IsAnswerOf}
+use Rattle.cb_graphs.specs.GraphAnswers.{OperandValue, NoOperand, SourceList, ValueColumn, IsAnswerOf, IsFaultOf, IsTaken}
 use Rattle.cb_job_ends.specs.Texts.{text_at}
 use Rattle.cb_job_ends.specs.WriteEnds.{IsEndOn}
 use Rattle.cb_job_ends.specs.declared.faults.JobFault.{JobFault}
-use Rattle.cb_job_ends.specs.declared.faults.JobFault.TheVariants.{Read, Refused, Unselected, Ranks, Memory, Output, Absent}
+use Rattle.cb_job_ends.specs.declared.faults.JobFault.TheVariants.{Read, Refused, Ranks, Memory, Output, Absent}
 use Rattle.cb_job_inputs.specs.Inputs.{AreWithList, IsFirstReadFault, arithmetic_at}
-use Rattle.cb_job_inputs.specs.Lists.{AreNumbersTo, IsList, numbers_in}
+use Rattle.cb_job_inputs.specs.Lists.{IsList, IsListRefusal, numbers_in}
 use Rattle.cb_job_output.specs.declared.answers.Answer.{Answer}
 use Rattle.cb_job_output.specs.Answers.{IsAnsweredOn}
 
@@ -35,32 +36,24 @@ abbrev pub AreRead : Beside → Arithmetic → List (List ℕ) → Sparse → Op
 AreRead Nothing s texts a operand = Reads s (text_at texts 0) a × (operand ≡ NoOperand)
 AreRead Sources s texts a operand =
     (l : Sparse) × AreWithList s texts a l × IsList a.shape.rows l × (operand ≡ SourceList (numbers_in l))
-AreRead Values s texts a operand =
-    (x : Sparse) × AreWithValues s texts a x × HasColumn a.shape x.shape × (operand ≡ ValueColumn x)
+AreRead Values s texts a operand = (x : Sparse) × AreWithValues s texts a x × (operand ≡ ValueColumn x)
 
 -- the operands of a task
 abbrev pub AreOperands : Beside → Arithmetic → GraphTask → List (List ℕ) → Sparse → OperandValue → Type 0
-AreOperands beside s task texts a operand = Suits task a.shape × AreRead beside s texts a operand
+AreOperands beside s task texts a operand = IsTaken task a.shape operand × AreRead beside s texts a operand
 
 -- ---- why they aren't operands
--- the graph is refused; else the list isn't a column; else a place of it has no number of a vertex
-abbrev pub IsListRefused : GraphTask → Extent → Sparse → JobFault → Type 0
-IsListRefused task d l (Refused refusal) =
-    IsRefusal task d refusal ⊎ (Suits task d × (refusal ≡ Source) × (l.shape.cols ≡ 1) × ¬ AreNumbersTo d.rows l)
-IsListRefused task d l (Unselected refusal) = Suits task d × (refusal ≡ NotColumn) × (l.shape.cols ≢ 1)
-IsListRefused task d l _ = ⊥
-
--- the graph is refused; else the initial values are
-abbrev pub AreValuesRefused : GraphTask → Extent → Extent → Refusal → Type 0
-AreValuesRefused task d e refusal = IsRefusal task d refusal ⊎ (Suits task d × IsValuesRefusal d e refusal)
+-- the graph is refused; else the list isn't a column; else a place of it has no number of a vertex; or memory was refused
+abbrev pub IsListFault : GraphTask → Extent → Sparse → ComputeFault → Type 0
+IsListFault task d l (compute_fault.Refused refusal) = IsRefusal task d refusal ⊎ (Suits task d × IsListRefusal Source d.rows l refusal)
+IsListFault task d l compute_fault.Memory = IsTaken task d (SourceList (numbers_in l)) × IsList d.rows l
 
 -- the texts are matrices, and refused
-abbrev pub AreRefused : Beside → Arithmetic → GraphTask → List (List ℕ) → JobFault → Type 0
-AreRefused Nothing s task texts (Refused refusal) = (a : Sparse) × Reads s (text_at texts 0) a × IsRefusal task a.shape refusal
-AreRefused Sources s task texts fault = (a : Sparse) × (l : Sparse) × AreWithList s texts a l × IsListRefused task a.shape l fault
-AreRefused Values s task texts (Refused refusal) =
-    (a : Sparse) × (x : Sparse) × AreWithValues s texts a x × AreValuesRefused task a.shape x.shape refusal
-AreRefused _ s task texts fault = ⊥
+abbrev pub AreRefused : Beside → Arithmetic → GraphTask → List (List ℕ) → Refusal → Type 0
+AreRefused Sources s task texts refusal =
+    (a : Sparse) × (l : Sparse) × AreWithList s texts a l × IsListFault task a.shape l (compute_fault.Refused refusal)
+AreRefused beside s task texts refusal =
+    (a : Sparse) × (operand : OperandValue) × AreRead beside s texts a operand × IsFaultOf task a.shape operand (compute_fault.Refused refusal)
 
 -- how the text at a position is read
 abbrev pub read_by : Beside → Arithmetic → ℕ → Arithmetic
@@ -72,8 +65,7 @@ read_by Values s = arithmetic_at s min_plus
 -- was refused, or the sink failed.
 abbrev pub IsFaultBy : Beside → Arithmetic → GraphTask → List (List ℕ) → JobFault → Type 0
 IsFaultBy beside s task texts (Read which fault) = IsFirstReadFault (read_by beside s) texts (Read which fault)
-IsFaultBy beside s task texts (Refused refusal) = AreRefused beside s task texts (Refused refusal)
-IsFaultBy beside s task texts (Unselected refusal) = AreRefused beside s task texts (Unselected refusal)
+IsFaultBy beside s task texts (Refused refusal) = AreRefused beside s task texts refusal
 IsFaultBy beside s task texts (Ranks fault) = ⊥
 IsFaultBy beside s task texts Absent = ⊥
 IsFaultBy beside s task texts Memory = (a : Sparse) × (operand : OperandValue) × AreOperands beside s task texts a operand
@@ -83,7 +75,7 @@ IsFaultBy beside s task texts Output = (a : Sparse) × (operand : OperandValue) 
 -- the answer for the operands that the texts read as
 abbrev pub IsAnswerBy : Beside → Arithmetic → GraphTask → List (List ℕ) → GraphAnswer → Type 0
 IsAnswerBy beside s task texts answer =
-    (a : Sparse) × (operand : OperandValue) × AreOperands beside s task texts a operand × IsAnswerOf task a operand answer
+    (a : Sparse) × (operand : OperandValue) × AreOperands beside s task texts a operand × IsAnswerOf s task a operand answer
 
 -- How a call ends that reads the operands and computes the answer.
 pub record HasAnswer (beside : Beside) (s : Arithmetic) (task : GraphTask) (texts : List (List ℕ)) (result : Result GraphAnswer JobFault) : Type 0 where

@@ -51,8 +51,7 @@ pub fn graph_answer<R: Threads + Sync>(
     ensures { IsGraphAnswered task texts.items result }
 {
     let answer = task_answer(rt, alloc, threads, task, texts)?;
-    let written = text_answer(alloc, answer)?;
-    Ok(written)
+    Ok(text_answer(alloc, answer))
 }
 
 /// Writes the text of the answer of a task, with the faults of [`graph_answer`] and of [`put_answer`].

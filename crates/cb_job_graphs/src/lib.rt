@@ -6,5 +6,4 @@
 #![tactic(auto)]
 
 pub mod graph_answers;
-mod graph_inputs;
 pub mod graph_tasks;

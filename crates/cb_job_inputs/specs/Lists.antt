@@ -1,7 +1,9 @@
 -- Lists of numbers of rows, of columns or of vertices, each in a text of its own.
-use Rattle.std.specs.Prelude.{ℕ, ◌≡◌, List, length, ◌-◌, ◌≤◌, map, All}
+use Rattle.std.specs.Prelude.{ℕ, ◌≡◌, ◌≢◌, ◌⊎◌, List, length, ◌-◌, ◌≤◌, map, All}
 use Rattle.cb_matrix.specs.Sparse.{Sparse}
 use Rattle.cb_dcsc.specs.Columns.{values_of}
+use Rattle.cb_operations.specs.declared.refusals.Refusal.{Refusal}
+use Rattle.cb_operations.specs.declared.refusals.Refusal.TheVariants.{NotColumn}
 
 -- the numbers that a column lists, counted from 0; in the column they count from 1
 abbrev pub numbers_in : Sparse → List ℕ
@@ -18,3 +20,8 @@ AreNumbersTo n m = (length m.entries ≡ m.shape.rows) × All (IsNumberTo n) (va
 -- a matrix lists numbers from 1 to n: it is a column that has one in each place
 abbrev pub IsList : ℕ → Sparse → Type 0
 IsList n m = (m.shape.cols ≡ 1) × AreNumbersTo n m
+
+-- why a matrix lists no numbers from 1 to n: it isn't a column; else a place has no such number, for which there is a refusal
+abbrev pub IsListRefusal : Refusal → ℕ → Sparse → Refusal → Type 0
+IsListRefusal missing n m refusal =
+    ((refusal ≡ NotColumn) × (m.shape.cols ≢ 1)) ⊎ ((refusal ≡ missing) × (m.shape.cols ≡ 1) × ¬ AreNumbersTo n m)

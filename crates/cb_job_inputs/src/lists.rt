@@ -1,10 +1,11 @@
 //! Lists of numbers of rows, of columns or of vertices, each a column in a text of its own. The numbers count from 1.
-ghost use Rattle.std.specs.Prelude.{◌≡◌, ◌↔◌, ◌<◌, ◌≤◌, IsTrue, All, IfOk, length, map, ◌-◌};
+ghost use Rattle.std.specs.Prelude.{◌≡◌, ◌↔◌, ◌<◌, ◌≤◌, IsTrue, All, IfOk, IfErr, OnOk, length, map, ◌-◌};
 ghost use Rattle.cb_dcsc.specs.Columns.{values_of};
 ghost use Rattle.cb_matrix.specs.declared.TheConstants.{LIMIT};
-ghost use Rattle.cb_job_inputs.specs.Lists.{AreNumbersTo, IsList, IsNumberTo, numbers_in};
+ghost use Rattle.cb_job_inputs.specs.Lists.{AreNumbersTo, IsList, IsListRefusal, IsNumberTo, numbers_in};
 
 use cb_dcsc::Block;
+use cb_operations::Refusal;
 use cb_semirings::PlusTimes;
 use std::alloc::{AllocError, Global};
 
@@ -18,11 +19,27 @@ fn are_numbers(values: &[u64], limit: u32) -> bool
 }
 
 /// Whether each place of a column has a number from 1 to the limit.
-pub fn is_full(column: &Block<PlusTimes>, limit: u32) -> bool
+fn is_full(column: &Block<PlusTimes>, limit: u32) -> bool
     ensures { IsTrue result ↔ AreNumbersTo limit column.now }
 {
     let places = column.shape().rows() as usize;
     column.len() == places && are_numbers(column.values(), limit)
+}
+
+/// Refuses a matrix that doesn't list numbers from 1 to the limit: one that isn't a column, then one with a place that has no such
+/// number, for which the refusal is `missing`.
+pub fn check_list(list: &Block<PlusTimes>, limit: u32, missing: Refusal) -> Result<(), Refusal>
+    ensures ok { OnOk result (IsList limit list.now) }
+    ensures refused { IfErr result (IsListRefusal missing limit list.now) }
+{
+    if list.shape().cols() != 1 {
+        return Err(Refusal::NotColumn);
+    }
+    if is_full(list, limit) {
+        Ok(())
+    } else {
+        Err(missing)
+    }
 }
 
 /// The numbers of a list, counted from 0.

@@ -1,1 +1,1 @@
-pub mod OperationTexts
+pub mod ComputedTexts

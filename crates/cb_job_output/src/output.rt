@@ -1,10 +1,9 @@
 //! Writes the text of a matrix or a column. One thread writes it page by page. Several write it in rounds: while one round is written to
 //! the sink, the next is made. The thread that writes to the sink then makes shares too, as many as are left for it.
-ghost use Rattle.std.specs.Prelude.{◌≡◌, ℕ, ◌+◌, ◌<◌, ◌++◌, [], List, length, true, false, All, IfOk, IfSome, OnOk, OnErr};
-ghost use Rattle.std.specs.Io.KnownBytes.{Appends};
+ghost use Rattle.std.specs.Prelude.{◌≡◌, ℕ, ◌+◌, ◌<◌, ◌++◌, [], List, length, true, false, All, IfOk, IfSome, OnOk};
 ghost use Rattle.cb_market_pages.specs.Text.{lines_in, text_of};
 ghost use Rattle.cb_job_output.specs.Rounds.{joined, AreOf, AreAllOf};
-ghost use Rattle.cb_job_ends.specs.Sinks.{AppendsPrefix};
+ghost use Rattle.cb_job_ends.specs.Sinks.{IsPut};
 ghost use Rattle.cb_job_ends.specs.WriteEnds.{IsTextEnd, end_of_put};
 
 use crate::rounds::{Dealt, FEW, Form, Round};
@@ -31,10 +30,7 @@ fn put_share<S: Semiring, K: Sink>(
 ) -> Result<(), PutFault>
     requires works { K.has_failed out.old ≡ false }
     requires same { IfSome written (λ bytes. bytes.now ≡ share.now) }
-    ensures whole { OnOk result (Appends (K.written out.old) (K.written out.new) share.now) }
-    ensures works { OnOk result (K.has_failed out.new ≡ false) }
-    ensures prefix { OnErr result (AppendsPrefix (K.written out.old) (K.written out.new) share.now) }
-    ensures fails { OnErr result (K.has_failed out.new ≡ true) }
+    ensures { IsPut share.now (K.written out.old) (K.written out.new) (K.has_failed out.new) result }
 {
     if let Some(bytes) = written {
         return put_all(out, bytes);
@@ -51,10 +47,7 @@ fn put_round<S: Semiring, K: Sink>(
 ) -> Result<(), PutFault>
     requires works { K.has_failed out.old ≡ false }
     requires made { AreAllOf round.now.dealt round.now.own round.now.others.items }
-    ensures whole { OnOk result (Appends (K.written out.old) (K.written out.new) (joined round.now.dealt)) }
-    ensures works { OnOk result (K.has_failed out.new ≡ false) }
-    ensures prefix { OnErr result (AppendsPrefix (K.written out.old) (K.written out.new) (joined round.now.dealt)) }
-    ensures fails { OnErr result (K.has_failed out.new ≡ true) }
+    ensures { IsPut (joined round.now.dealt) (K.written out.old) (K.written out.new) (K.has_failed out.new) result }
 {
     let shares = round.dealt.shares();
     for n in 0..shares.len() {
@@ -90,10 +83,7 @@ fn put_and_make<'a, S: Semiring, G: Gate, K: Sink>(
     ensures made { OnOk result (AreOf shares.now own.new) }
     ensures text { OnOk result (rest.old.text ≡ joined rest.new.coming ++ rest.new.text) }
     ensures none { OnOk result (joined rest.new.coming ≡ [] → rest.old.text ≡ []) }
-    ensures whole { OnOk result (Appends (K.written out.old) (K.written out.new) (joined earlier.now.dealt)) }
-    ensures works { OnOk result (K.has_failed out.new ≡ false) }
-    ensures prefix { OnErr result (AppendsPrefix (K.written out.old) (K.written out.new) (joined earlier.now.dealt)) }
-    ensures fails { OnErr result (K.has_failed out.new ≡ true) }
+    ensures put { IsPut (joined earlier.now.dealt) (K.written out.old) (K.written out.new) (K.has_failed out.new) result }
 {
     thread::yield_now();
     put_round(earlier, &mut rest.spare, out)?;
@@ -135,10 +125,7 @@ fn put_beside<'a, S: Semiring + Send + Sync, R: Threads + Sync, G: Gate, K: Sink
     ensures made { OnOk result (AreAllOf shares.now own.new others.new) }
     ensures text { OnOk result (rest.old.text ≡ joined rest.new.coming ++ rest.new.text) }
     ensures none { OnOk result (joined rest.new.coming ≡ [] → rest.old.text ≡ []) }
-    ensures whole { OnOk result (Appends (K.written out.old) (K.written out.new) (joined earlier.now.dealt)) }
-    ensures works { OnOk result (K.has_failed out.new ≡ false) }
-    ensures prefix { OnErr result (AppendsPrefix (K.written out.old) (K.written out.new) (joined earlier.now.dealt)) }
-    ensures fails { OnErr result (K.has_failed out.new ≡ true) }
+    ensures put { IsPut (joined earlier.now.dealt) (K.written out.old) (K.written out.new) (K.has_failed out.new) result }
 {
     let (_, put) = thread::join_mut(
         rt,
@@ -165,10 +152,7 @@ fn put_while_made<'a, S: Semiring + Send + Sync, R: Threads + Sync, G: Gate, K: 
     ensures made { OnOk result (AreAllOf round.new.dealt round.new.own round.new.others.items) }
     ensures text { OnOk result (rest.old.text ≡ joined rest.new.coming ++ rest.new.text) }
     ensures none { OnOk result (joined rest.new.coming ≡ [] → rest.old.text ≡ []) }
-    ensures whole { OnOk result (Appends (K.written out.old) (K.written out.new) (joined earlier.now.dealt)) }
-    ensures works { OnOk result (K.has_failed out.new ≡ false) }
-    ensures prefix { OnErr result (AppendsPrefix (K.written out.old) (K.written out.new) (joined earlier.now.dealt)) }
-    ensures fails { OnErr result (K.has_failed out.new ≡ true) }
+    ensures put { IsPut (joined earlier.now.dealt) (K.written out.old) (K.written out.new) (K.has_failed out.new) result }
 {
     let turns = Turns::new(gate);
     let shares = round.dealt.shares();
@@ -210,10 +194,7 @@ fn put_rounds<'a, S: Semiring + Send + Sync, R: Threads + Sync, G: Gate, K: Sink
 ) -> Result<(), PutFault>
     requires works { K.has_failed out.old ≡ false }
     requires blank { (round.old.dealt ≡ []) × AreAllOf [] round.old.own round.old.others.items }
-    ensures whole { OnOk result (Appends (K.written out.old) (K.written out.new) rest.old.text) }
-    ensures works { OnOk result (K.has_failed out.new ≡ false) }
-    ensures prefix { OnErr result (AppendsPrefix (K.written out.old) (K.written out.new) rest.old.text) }
-    ensures fails { OnErr result (K.has_failed out.new ≡ true) }
+    ensures { IsPut rest.old.text (K.written out.old) (K.written out.new) (K.has_failed out.new) result }
 {
     next.dealt.deal(&mut rest.text);
     let mut is_left = true;
@@ -233,10 +214,7 @@ fn put_pages<S: Semiring, K: Sink>(
     out: &mut K,
 ) -> Result<(), PutFault>
     requires { K.has_failed out.old ≡ false }
-    ensures whole { OnOk result (Appends (K.written out.old) (K.written out.new) text.old) }
-    ensures works { OnOk result (K.has_failed out.new ≡ false) }
-    ensures prefix { OnErr result (AppendsPrefix (K.written out.old) (K.written out.new) text.old) }
-    ensures fails { OnErr result (K.has_failed out.new ≡ true) }
+    ensures { IsPut text.old (K.written out.old) (K.written out.new) (K.has_failed out.new) result }
 {
     while text.next_page(page) {
         put_all(out, page.written())?;

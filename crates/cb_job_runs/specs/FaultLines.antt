@@ -1,9 +1,9 @@
 -- The lines that report faults.
 use Rattle.std.specs.Prelude.{ℕ, List, [], ◌++◌, ◌==◌, ◌||◌, nat_lt, cond, map, codes, decimal, String, string_bytes, unwrap_or, option_map, slice_get}
 use Rattle.cb_job_ends.specs.declared.faults.JobFault.{JobFault}
-use Rattle.cb_job_ends.specs.declared.faults.JobFault.TheVariants.{Read, Refused, Unselected, Ranks, Memory, Output, Absent}
+use Rattle.cb_job_ends.specs.declared.faults.JobFault.TheVariants.{Read, Refused, Ranks, Memory, Output, Absent}
 use Rattle.cb_market_lines.specs.Kinds.{kind_text}
-use Rattle.cb_operations.specs.RefusalTexts.{refusal_text, selection_refusal_text}
+use Rattle.cb_operations.specs.RefusalTexts.{refusal_text}
 use Rattle.cb_rank_faults.specs.RanksFaults.{ranks_fault_text}
 
 -- the name at a position, or an empty one
@@ -35,7 +35,6 @@ abbrev pub line_of : {A : Type 0} → List (String A) → JobFault → List ℕ
 line_of names Absent = plain_line_of (codes "not in this program")
 line_of names (Read which fault) = read_line_of (name_at names which) fault.line (kind_text fault.kind)
 line_of names (Refused refusal) = plain_line_of (refusal_text refusal)
-line_of names (Unselected refusal) = plain_line_of (selection_refusal_text refusal)
 line_of names (Ranks fault) = plain_line_of (ranks_fault_text fault)
 line_of names Memory = plain_line_of (codes "out of memory")
 line_of names Output = plain_line_of (codes "can't write")

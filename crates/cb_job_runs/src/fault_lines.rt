@@ -92,7 +92,6 @@ pub fn fault_line(alloc: Global, names: &[String], fault: &JobFault) -> Result<V
             read_line(alloc, name_at(names, which), fault.line, fault.kind.text())
         }
         JobFault::Refused(refusal) => line(alloc, refusal.text()),
-        JobFault::Unselected(refusal) => line(alloc, refusal.text()),
         JobFault::Ranks(fault) => ranks_line(alloc, fault),
         JobFault::Memory => line(alloc, "out of memory"),
         JobFault::Output => line(alloc, "can't write"),

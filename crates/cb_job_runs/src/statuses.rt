@@ -18,7 +18,6 @@ pub fn status(fault: &JobFault) -> u8
             _ => 4,
         },
         JobFault::Refused(_) => 5,
-        JobFault::Unselected(_) => 5,
         JobFault::Ranks(_) => 6,
         JobFault::Memory => 6,
         JobFault::Output => 7,

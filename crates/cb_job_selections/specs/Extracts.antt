@@ -1,20 +1,20 @@
 -- Rows and columns of a matrix by their numbers, which are listed in texts.
-use Rattle.std.specs.Prelude.{ℕ, ◌≡◌, ◌≢◌, ◌⊎◌, List, Option, Some, None, option_map}
+use Rattle.std.specs.Prelude.{ℕ, ◌≡◌, ◌⊎◌, List, Option, Some, None, option_map}
 use Rattle.cb_semirings.specs.Arithmetic.{Arithmetic}
 use Rattle.cb_semirings.specs.Tables.{plus_times}
 use Rattle.cb_matrix.specs.Sparse.{Sparse, Extent}
 use Rattle.cb_market_lines.specs.Reads.{Reads}
 use Rattle.cb_market_pages.specs.Text.{text_of}
-use Rattle.cb_operations.specs.declared.refusals.SelectionRefusal.{SelectionRefusal}
-use Rattle.cb_operations.specs.declared.refusals.SelectionRefusal.TheVariants.{NotColumn, NoRow, NoColumn}
+use Rattle.cb_operations.specs.declared.refusals.Refusal.{Refusal}
+use Rattle.cb_operations.specs.declared.refusals.Refusal.TheVariants.{NoRow, NoColumn}
 use Rattle.cb_selections.specs.Extracted.{extracted_by}
 use Rattle.cb_command_line.specs.declared.lists.Lists.{Lists}
 use Rattle.cb_command_line.specs.declared.lists.Lists.TheVariants.{Rows, Columns, Both}
 use Rattle.cb_job_ends.specs.Texts.{text_at}
 use Rattle.cb_job_ends.specs.declared.faults.JobFault.{JobFault}
-use Rattle.cb_job_ends.specs.declared.faults.JobFault.TheVariants.{Read, Refused, Unselected, Ranks, Memory, Output, Absent}
+use Rattle.cb_job_ends.specs.declared.faults.JobFault.TheVariants.{Read, Refused, Ranks, Memory, Output, Absent}
 use Rattle.cb_job_inputs.specs.Inputs.{AreWithList, IsFirstReadFault, arithmetic_at}
-use Rattle.cb_job_inputs.specs.Lists.{AreNumbersTo, IsList, numbers_in}
+use Rattle.cb_job_inputs.specs.Lists.{IsList, IsListRefusal, numbers_in}
 
 -- the texts read as this matrix and the lists that there are: of its rows, and of its columns
 abbrev pub AreWithLists : Lists → Arithmetic → List (List ℕ) → Sparse → Option Sparse → Option Sparse → Type 0
@@ -49,25 +49,24 @@ AreExtractable lists s texts = (m : Sparse) × IsExtractOf lists s texts m
 abbrev pub IsExtractAnswer : Lists → Arithmetic → List (List ℕ) → List ℕ → Type 0
 IsExtractAnswer lists s texts answer = (m : Sparse) × IsExtractOf lists s texts m × (answer ≡ text_of s m)
 
--- why a matrix is no such list: it isn't a column; else a place has no such number, for which there is a refusal
-abbrev pub IsListRefusal : SelectionRefusal → ℕ → Option Sparse → SelectionRefusal → Type 0
-IsListRefusal missing n (Some m) refusal =
-    ((refusal ≡ NotColumn) × (m.shape.cols ≢ 1)) ⊎ ((refusal ≡ missing) × (m.shape.cols ≡ 1) × ¬ AreNumbersTo n m)
-IsListRefusal missing n None refusal = ⊥
+-- why a matrix, if there is one, is no such list
+abbrev pub IsUnlisted : Refusal → ℕ → Option Sparse → Refusal → Type 0
+IsUnlisted missing n (Some m) refusal = IsListRefusal missing n m refusal
+IsUnlisted missing n None refusal = ⊥
 
 -- why two matrices don't list rows and columns in a shape: the first lists no rows; else the second lists no columns
-abbrev pub AreListsRefused : Extent → Option Sparse → Option Sparse → SelectionRefusal → Type 0
+abbrev pub AreListsRefused : Extent → Option Sparse → Option Sparse → Refusal → Type 0
 AreListsRefused d k l refusal =
-    IsListRefusal NoRow d.rows k refusal ⊎ (IsListed d.rows k × IsListRefusal NoColumn d.cols l refusal)
+    IsUnlisted NoRow d.rows k refusal ⊎ (IsListed d.rows k × IsUnlisted NoColumn d.cols l refusal)
 
 -- why what they list can't be taken: they are no such lists; or they are, and memory was refused
 abbrev pub AreListsFault : Extent → Option Sparse → Option Sparse → JobFault → Type 0
-AreListsFault d k l (Unselected refusal) = AreListsRefused d k l refusal
+AreListsFault d k l (Refused refusal) = AreListsRefused d k l refusal
 AreListsFault d k l Memory = AreLists d k l
 AreListsFault d k l _ = ⊥
 
 -- why the texts have no lists of rows or columns of the matrix
-abbrev pub IsExtractRefusal : Lists → Arithmetic → List (List ℕ) → SelectionRefusal → Type 0
+abbrev pub IsExtractRefusal : Lists → Arithmetic → List (List ℕ) → Refusal → Type 0
 IsExtractRefusal lists s texts refusal =
     (a : Sparse) × (k : Option Sparse) × (l : Option Sparse) × AreWithLists lists s texts a k l × AreListsRefused a.shape k l refusal
 
@@ -75,8 +74,7 @@ IsExtractRefusal lists s texts refusal =
 -- or the sink failed.
 abbrev pub IsExtractFault : Lists → Arithmetic → List (List ℕ) → JobFault → Type 0
 IsExtractFault lists s texts (Read which fault) = IsFirstReadFault (arithmetic_at s plus_times) texts (Read which fault)
-IsExtractFault lists s texts (Refused refusal) = ⊥
-IsExtractFault lists s texts (Unselected refusal) = IsExtractRefusal lists s texts refusal
+IsExtractFault lists s texts (Refused refusal) = IsExtractRefusal lists s texts refusal
 IsExtractFault lists s texts (Ranks fault) = ⊥
 IsExtractFault lists s texts Absent = ⊥
 IsExtractFault lists s texts Memory = AreExtractable lists s texts

@@ -5,7 +5,7 @@ ghost use Rattle.cb_selections.specs.Extracted.{AreBelow, AreFew};
 ghost use Rattle.cb_command_line.specs.Jobs.{list_count_of};
 ghost use Rattle.cb_job_inputs.specs.Inputs.{IsFirstReadFault, arithmetic_at};
 ghost use Rattle.cb_job_inputs.specs.Lists.{numbers_in};
-ghost use Rattle.cb_job_selections.specs.Extracts.{AreListsFault, AreListsRefused, AreLists, AreWithLists, IsListRefusal, IsListed, IsPartOf};
+ghost use Rattle.cb_job_selections.specs.Extracts.{AreListsFault, AreListsRefused, AreLists, AreWithLists, IsListed, IsPartOf, IsUnlisted};
 ghost use Rattle.cb_job_selections.specs.SelectionTexts.{IsSelectionAnswered};
 ghost use Rattle.cb_command_line.specs.declared.tasks.SelectionTask.TheVariants as task_is;
 
@@ -15,11 +15,11 @@ use cb_dcsc::Block;
 use cb_job_ends::faults::JobFault;
 use cb_job_ends::texts::Text;
 use cb_job_inputs::inputs::read_beside;
-use cb_job_inputs::lists::{is_full, listed};
+use cb_job_inputs::lists::{check_list, listed};
 use cb_job_output::answers::Answer;
 use cb_layout::{Grid, PanelledMatrix};
 use cb_matrix::Shape;
-use cb_operations::SelectionRefusal;
+use cb_operations::Refusal;
 use cb_selections::extract;
 use cb_semirings::{PlusTimes, Semiring};
 use std::alloc::{AllocError, Global};
@@ -48,26 +48,19 @@ fn read_with_lists<S: Based + Send + Sync, R: Threads + Sync>(
     }
 }
 
-/// Checks that a matrix, if there is one, lists numbers from 1 to a limit. If a place has no such number, the refusal is
+/// Refuses a matrix, if there is one, that doesn't list numbers from 1 to a limit. If a place has no such number, the refusal is
 /// `missing`.
-fn check_list(
+fn check_some_list(
     list: &Option<Block<PlusTimes>>,
     limit: u32,
-    missing: SelectionRefusal,
-) -> Result<(), SelectionRefusal>
+    missing: Refusal,
+) -> Result<(), Refusal>
     ensures ok { OnOk result (IsListed limit list.now) }
-    ensures refused { IfErr result (IsListRefusal missing limit list.now) }
+    ensures refused { IfErr result (IsUnlisted missing limit list.now) }
 {
-    let Some(column) = list else {
-        return Ok(());
-    };
-    if column.shape().cols() != 1 {
-        return Err(SelectionRefusal::NotColumn);
-    }
-    if is_full(column, limit) {
-        Ok(())
-    } else {
-        Err(missing)
+    match list {
+        Some(column) => check_list(column, limit, missing),
+        None => Ok(()),
     }
 }
 
@@ -76,12 +69,12 @@ fn check_lists(
     shape: Shape,
     rows: &Option<Block<PlusTimes>>,
     columns: &Option<Block<PlusTimes>>,
-) -> Result<(), SelectionRefusal>
+) -> Result<(), Refusal>
     ensures ok { OnOk result (AreLists shape rows.now columns.now) }
     ensures refused { IfErr result (AreListsRefused shape rows.now columns.now) }
 {
-    check_list(rows, shape.rows(), SelectionRefusal::NoRow)?;
-    check_list(columns, shape.cols(), SelectionRefusal::NoColumn)
+    check_some_list(rows, shape.rows(), Refusal::NoRow)?;
+    check_some_list(columns, shape.cols(), Refusal::NoColumn)
 }
 
 /// The numbers of a list, if there is one, counted from 0.

@@ -7,4 +7,3 @@
 
 mod extract_texts;
 pub mod named_selections;
-mod selection_texts;

@@ -5,19 +5,20 @@ ghost use Rattle.cb_command_line.specs.Jobs.{is_distributive, selection_file_cou
 ghost use Rattle.cb_job_selections.specs.SelectionTexts.{IsSelectionAnswered, IsSelectionEnd};
 
 use crate::extract_texts::extract_answer;
-use crate::selection_texts::selected_answer;
 use cb_bases::Based;
 use cb_command_line::{SelectionTask, over_distributive};
 use cb_job_ends::faults::JobFault;
 use cb_job_ends::sinks::Sink;
 use cb_job_ends::texts::Text;
+use cb_job_operations::computed_answers::computed_answer;
 use cb_job_output::answers::{Answer, put_answer};
+use cb_operations::Computation;
 use cb_semirings::SemiringName;
 use std::alloc::Global;
 use std::thread::Threads;
 
 /// Reads the texts of a selection over a semiring, and makes it from their matrices: the answer whose text is its own. At most
-/// `threads` threads read, and make selections by columns ([`cb_panels::select`]); the caller's thread makes all others.
+/// `threads` threads read, and make selections by columns ([`cb_panels::compute`]); the caller's thread makes all others.
 ///
 /// The first fault in this order is returned: a text that isn't a matrix; a selection that can't be made; want of memory. Each
 /// text is dropped once it is read, so that its memory is free for the computation.
@@ -33,7 +34,8 @@ pub fn selection_answer<S: Based + Send + Sync, R: Threads + Sync>(
 {
     match task {
         SelectionTask::Selected(selection) => {
-            selected_answer::<S, R>(rt, alloc, threads, selection, texts)
+            let computation = Computation::Selection(selection);
+            computed_answer::<S, R>(rt, alloc, threads, computation, texts)
         }
         SelectionTask::Extract(lists) => extract_answer::<S, R>(rt, alloc, threads, lists, texts),
     }

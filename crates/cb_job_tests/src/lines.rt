@@ -7,9 +7,7 @@ use cb_job_runs::fault_lines::fault_line;
 use cb_job_runs::statuses::status;
 use cb_market::{Kind, ReadFault};
 use cb_matrix::Test;
-use cb_operations::{
-    Diagonal, Function, GraphTask, Operation, Refusal, Region, Selection, SelectionRefusal,
-};
+use cb_operations::{Diagonal, Function, GraphTask, Operation, Refusal, Region, Selection};
 use cb_rank_faults::RanksFault;
 use cb_semirings::SemiringName;
 use cb_semirings::SemiringName::{MaxMin, MaxPlus, MinPlus, OrAnd, PlusTimes};
@@ -378,14 +376,12 @@ const FAULTS: &[(JobFault, u8, &str)] = faults! {
     JobFault::Ranks(RanksFault::Gone(0)) => 6, "rank 0 gone";
     JobFault::Ranks(RanksFault::TraceTorn) => 6, "trace torn";
     JobFault::Ranks(RanksFault::Lost { rank: 7, refusals: 2 }) => 6, "lost at rank 7";
-    JobFault::Unselected(SelectionRefusal::Shapes) => 5, "shapes don't agree";
-    JobFault::Unselected(SelectionRefusal::NoValue) => 5, "no value of the semiring";
-    JobFault::Unselected(SelectionRefusal::NotColumn) => 5, "matrix not a column";
-    JobFault::Unselected(SelectionRefusal::NotSquare) => 5, "matrix not square";
-    JobFault::Unselected(SelectionRefusal::TooLarge) => 5, "product too large";
-    JobFault::Unselected(SelectionRefusal::Place) => 5, "part ends beyond the matrix";
-    JobFault::Unselected(SelectionRefusal::NoRow) => 5, "no such row";
-    JobFault::Unselected(SelectionRefusal::NoColumn) => 5, "no such column";
+    JobFault::Refused(Refusal::NoValue) => 5, "no value of the semiring";
+    JobFault::Refused(Refusal::NotColumn) => 5, "matrix not a column";
+    JobFault::Refused(Refusal::TooLarge) => 5, "product too large";
+    JobFault::Refused(Refusal::Place) => 5, "part ends beyond the matrix";
+    JobFault::Refused(Refusal::NoRow) => 5, "no such row";
+    JobFault::Refused(Refusal::NoColumn) => 5, "no such column";
     JobFault::Memory => 6, "out of memory";
     JobFault::Output => 7, "can't write";
 };

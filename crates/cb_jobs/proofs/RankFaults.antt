@@ -32,7 +32,7 @@ use Rattle.cb_jobs.specs.Engines.{fault_of_operation}
 -- a fault of an operation by an engine
 pub of_run : (operation : Operation) (s : Arithmetic) (engine : Engine) (side : ℕ) (texts : List (List ℕ)) (ms : List Sparse) (fault : OperationFault) → AreMatrices s texts ms
     → IsRefusal engine operation side ms fault → IsLossFor s engine operation side ms fault → IsRanksFaultOver operation s engine side texts (fault_of_operation fault)
-of_run operation s engine side texts ms (operation_is.Refused refusal_is.Shapes) are h loss = inl (ms, are, h)
+of_run operation s engine side texts ms (operation_is.Refused refusal_is.Shapes) are h loss = inl (ms, are, (refl, h))
 of_run operation s engine side texts ms (operation_is.Refused _) are h loss = absurd h
 of_run operation s engine side texts ms (operation_is.Failed said) are h loss = inr (ms, are, (said, h, loss, refl))
 

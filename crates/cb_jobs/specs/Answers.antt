@@ -8,6 +8,7 @@ use Rattle.cb_market_lines.specs.Reads.{Reads}
 use Rattle.cb_market_pages.specs.Text.{text_of}
 use Rattle.cb_trace.specs.Traces.{TraceView}
 use Rattle.cb_operations.specs.declared.operations.Operation.{Operation}
+use Rattle.cb_operations.specs.declared.computations.Computation.TheVariants as computation_is
 use Rattle.cb_operations.specs.OperationAnswers.{Agree, answer_of, shapes_in}
 use Rattle.cb_rank_engines.specs.declared.engines.Engine.{Engine}
 use Rattle.cb_rank_engines.specs.declared.engines.Outcome.{Outcome}
@@ -21,7 +22,7 @@ use Rattle.cb_command_line.specs.declared.tasks.Task.TheVariants as task_is
 use Rattle.cb_operations.specs.declared.graphs.GraphTask.{GraphTask}
 use Rattle.cb_operations.specs.declared.graphs.GraphTask.TheVariants.{Levels, Distances}
 use Rattle.cb_job_inputs.specs.Inputs.{AreMatrices}
-use Rattle.cb_job_operations.specs.OperationTexts.{IsAnswerOver, IsFaultOver}
+use Rattle.cb_job_operations.specs.ComputedTexts.{IsAnswerOver, IsFaultOver}
 use Rattle.cb_job_selections.specs.SelectionTexts.{IsSelectionAnswer, IsSelectionFault}
 use Rattle.cb_job_graphs.specs.GraphTasks.{IsGraphAnswer, IsGraphFault}
 use Rattle.cb_job_ends.specs.Texts.{text_at}
@@ -57,7 +58,7 @@ IsRunFailure operation s engine side texts fault =
 
 -- why there is none, or why it wasn't written: as without ranks; or the operands are right, and the ranks failed
 abbrev pub IsRanksFaultOver : Operation → Arithmetic → Engine → ℕ → List (List ℕ) → JobFault → Type 0
-IsRanksFaultOver operation s engine side texts fault = IsFaultOver operation s texts fault ⊎ IsRunFailure operation s engine side texts fault
+IsRanksFaultOver operation s engine side texts fault = IsFaultOver (computation_is.Operation operation) s texts fault ⊎ IsRunFailure operation s engine side texts fault
 
 -- The text reads as a graph that has the source, and an engine may fail so in a search from there: the same.
 abbrev pub IsWalkFailure : Arithmetic → ℕ → Engine → ℕ → List (List ℕ) → JobFault → Type 0
@@ -71,12 +72,12 @@ IsRanksWalkFault task s source engine side texts fault = IsGraphFault task texts
 
 -- the answer of an operation over a semiring, by an engine or without one
 abbrev pub IsOperationAnswer : Option Engine → ℕ → Operation → Arithmetic → List (List ℕ) → List ℕ → Type 0
-IsOperationAnswer None side operation s = IsAnswerOver operation s
+IsOperationAnswer None side operation s = IsAnswerOver (computation_is.Operation operation) s
 IsOperationAnswer (Some engine) side operation s = IsRanksAnswer operation s engine side
 
 -- why there is none
 abbrev pub IsOperationFault : Option Engine → ℕ → Operation → Arithmetic → List (List ℕ) → JobFault → Type 0
-IsOperationFault None side operation s = IsFaultOver operation s
+IsOperationFault None side operation s = IsFaultOver (computation_is.Operation operation) s
 IsOperationFault (Some engine) side operation s = IsRanksFaultOver operation s engine side
 
 -- why a task on a graph has no answer, or why the answer wasn't written

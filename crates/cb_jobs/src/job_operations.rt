@@ -13,9 +13,9 @@ use cb_job_ends::faults::JobFault;
 use cb_job_ends::sinks::Sink;
 use cb_job_ends::texts::Text;
 use cb_job_inputs::operands::read_operands;
-use cb_job_operations::operation_answers::operation_answer;
+use cb_job_operations::computed_answers::computed_answer;
 use cb_job_output::answers::{Answer, put_answer};
-use cb_operations::Operation;
+use cb_operations::{Computation, Operation};
 use cb_rank_engines::Outcome;
 use cb_rank_operations::run;
 use cb_semirings::{SemiringName, over_semiring};
@@ -74,7 +74,10 @@ fn operation_answer_by<S: Based + Send + Sync, R: Threads + Wait + Sync>(
 {
     match ranks_of(job) {
         Some(ranks) => ranks_answer::<S, R>(rt, alloc, &ranks, operation, texts),
-        None => operation_answer::<S, R>(rt, alloc, job.threads, operation, texts),
+        None => {
+            let computation = Computation::Operation(operation);
+            computed_answer::<S, R>(rt, alloc, job.threads, computation, texts)
+        }
     }
 }
 

@@ -1,13 +1,20 @@
 -- The first fault of a call, from the faults of its parts.
-use Rattle.std.proofs.Common.{refl, inl, inr, ⊎_elim}
-use Rattle.std.specs.Prelude.{Result, Ok, Err}
+use Rattle.std.proofs.Common.{List, refl, ap, inl, inr, ⊎_elim}
 use Rattle.cb_semirings.specs.Arithmetic.{Arithmetic}
+use Rattle.cb_matrix.specs.Sparse.{Sparse}
 use Rattle.cb_lists.specs.declared.lists.Columns.{Columns}
+use Rattle.cb_operations.specs.declared.computations.Computation.{Computation}
+use Rattle.cb_operations.specs.declared.refusals.Refusal.{Refusal}
+use Rattle.cb_operations.specs.declared.refusals.ComputeFault.{ComputeFault}
+use Rattle.cb_operations.specs.declared.refusals.ComputeFault.TheVariants as compute_fault
+use Rattle.cb_operations.specs.Computations.{IsFaultOf, IsRefusal, Suits, refusal_of}
+use Rattle.cb_operations.specs.OperationAnswers.{shapes_in}
 use Rattle.cb_kept.specs.declared.faults.Fault.{Fault}
-use Rattle.cb_kept.specs.declared.faults.Fault.TheVariants.{Form, TooLarge, Lengths, Order, Place, Value, Memory}
+use Rattle.cb_kept.specs.declared.faults.Fault.TheVariants.{Form, TooLarge, Lengths, Order, Place, Value}
 use Rattle.cb_lists.specs.Lists.{AreLists, HasForm, Fits, HaveLengths, AreOrdered, AreInside, AreValues}
-use Rattle.cb_kept.specs.Refusals.{Unless, IsMemory, matrix_faults, list_faults}
-use Rattle.cb_kept.specs.Answers.{NoFault, IsAnswer}
+use Rattle.cb_kept.specs.Refusals.{Unless, IsMemory, matrix_faults, list_faults, refused_as, uncomputed_as}
+use Rattle.cb_kept.specs.Answers.{NoFault}
+use Rattle.cb_kept.specs.CallsOver.{refusal_faults}
 
 -- if P holds, the fault is one of those that come next
 pub only : (P : Type 0) (g : Fault) (next : Fault → Type 0) (f : Fault) → P → Unless P g next f → next f
@@ -19,15 +26,6 @@ wider P g first next k f h = ⊎_elim (λ a. inl a) (λ a. inr (a.0, k f a.1)) h
 -- there is no fault if P holds and none comes next
 pub passed : (P : Type 0) (g : Fault) (next : Fault → Type 0) → P → NoFault next → NoFault (Unless P g next)
 passed P g next p none = record { memory = inr (p, none.memory); only = λ f h. none.only f (only P g next f p h) }
-
--- a condition may be said in another way
-pub same : {P Q : Type 0} (g : Fault) (next : Fault → Type 0) → (P → Q) → (Q → P) → (f : Fault) → Unless P g next f → Unless Q g next f
-same g next a b f h = ⊎_elim (λ k. inl (k.0, λ q. k.1 (b q))) (λ k. inr (a k.0, k.1)) h
-
-pub same_answer : {X P Q : Type 0} (g : Fault) (next : Fault → Type 0) (is : X → Type 0) (r : Result X Fault) → (P → Q) → (Q → P) → IsAnswer (Unless P g next) is r → IsAnswer (Unless Q g next) is r
-same_answer g next is (Ok x) a b h =
-    (record { memory = same g next a b Memory h.0.memory; only = λ f k. h.0.only f (same g next b a f k) }, h.1)
-same_answer g next is (Err f) a b h = same g next a b f h
 
 pub no_more : NoFault IsMemory
 no_more = record { memory = refl; only = λ f h. h }
@@ -65,3 +63,15 @@ of_lists s a f h = matrix_wider s a IsMemory f h
 pub none_of_lists : (s : Arithmetic) (a : Columns) → AreLists s a → NoFault (list_faults s a)
 unfolding list_faults
 none_of_lists s a are = matrix_passed s a IsMemory are no_more
+
+-- a refusal of a computation on matrices over a semiring, or want of memory, is the fault of a call
+pub refused_fault : (c : Computation) (s : Arithmetic) (ms : List Sparse) (refusal : Refusal) → IsRefusal c s (shapes_in ms) refusal → refusal_faults c s ms (refused_as refusal)
+refused_fault c s ms refusal h = inl (ap refused_as h.0, h.1)
+
+pub computed_fault : (c : Computation) (s : Arithmetic) (ms : List Sparse) (f : ComputeFault) → IsFaultOf c s ms f → refusal_faults c s ms (uncomputed_as f)
+computed_fault c s ms (compute_fault.Refused refusal) h = refused_fault c s ms refusal h
+computed_fault c s ms compute_fault.Memory h = inr (h, refl)
+
+-- and there is none where it can be computed
+pub none_of_computed : (c : Computation) (s : Arithmetic) (ms : List Sparse) → Suits c s (shapes_in ms) → NoFault (refusal_faults c s ms)
+none_of_computed c s ms suits = passed _ (refused_as (refusal_of c)) _ suits no_more

@@ -4,25 +4,36 @@ use Rattle.cb_semirings.specs.Arithmetic.{Arithmetic}
 use Rattle.cb_semirings.specs.declared.names.SemiringName.{SemiringName}
 use Rattle.cb_semirings.specs.Names.{arithmetic_of}
 use Rattle.cb_matrix.specs.Sparse.{Sparse}
+use Rattle.cb_operations.specs.declared.computations.Computation.{Computation}
+use Rattle.cb_operations.specs.declared.computations.Computation.TheVariants as computation_is
 use Rattle.cb_operations.specs.declared.operations.Operation.{Operation}
-use Rattle.cb_operations.specs.OperationAnswers.{Agree, shapes_in}
+use Rattle.cb_operations.specs.Computations.{Suits, refusal_of}
+use Rattle.cb_operations.specs.OperationAnswers.{shapes_in}
 use Rattle.cb_kept.specs.declared.faults.Fault.{Fault}
-use Rattle.cb_kept.specs.declared.faults.Fault.TheVariants.{Mixed, Shapes}
+use Rattle.cb_kept.specs.declared.faults.Fault.TheVariants.{Mixed}
 use Rattle.cb_kept.specs.declared.kept.Kept.{Kept}
 use Rattle.cb_kept.specs.Answers.{IsAnswer}
 use Rattle.cb_kept.specs.Kept.{AreOver, semiring_in, matrix_in}
-use Rattle.cb_kept.specs.Refusals.{Unless, IsMemory}
+use Rattle.cb_kept.specs.Refusals.{Unless, IsMemory, refused_as}
 
--- the faults of matrices whose shapes have to agree for an operation
-abbrev pub shape_faults : Operation → List Sparse → Fault → Type 0
-shape_faults operation ms = Unless (Agree operation (shapes_in ms)) Shapes IsMemory
+-- the faults of a computation on matrices over a semiring: it is refused
+abbrev pub refusal_faults : Computation → Arithmetic → List Sparse → Fault → Type 0
+refusal_faults computation s ms = Unless (Suits computation s (shapes_in ms)) (refused_as (refusal_of computation)) IsMemory
+
+-- the same of an operation: the shapes don't agree
+abbrev pub operation_faults : Operation → Arithmetic → List Sparse → Fault → Type 0
+operation_faults operation = refusal_faults (computation_is.Operation operation)
 
 -- how a call ends on matrices over a semiring, by its faults and its answers
 abbrev pub IsCallOver : {X : Type 0} → (Arithmetic → List Sparse → Fault → Type 0) → (SemiringName → Arithmetic → List Sparse → X → Type 0) → SemiringName → Arithmetic → List Sparse → Result X Fault → Type 0
 IsCallOver faults gives name s ms = IsAnswer (faults s ms) (gives name s ms)
 
--- how it ends on kept matrices: their semirings differ, or it ends as over their semiring
+-- its faults on kept matrices: their semirings differ, or those over their semiring
+abbrev pub common_faults : (Arithmetic → List Sparse → Fault → Type 0) → List Kept → Fault → Type 0
+common_faults faults ks =
+    Unless (AreOver (semiring_in ks) ks) Mixed (faults (arithmetic_of (semiring_in ks)) (map matrix_in ks))
+
+-- how it ends on kept matrices
 abbrev pub IsCallOverCommon : {X : Type 0} → (Arithmetic → List Sparse → Fault → Type 0) → (SemiringName → Arithmetic → List Sparse → X → Type 0) → List Kept → Result X Fault → Type 0
 IsCallOverCommon faults gives ks =
-    IsAnswer (Unless (AreOver (semiring_in ks) ks) Mixed (faults (arithmetic_of (semiring_in ks)) (map matrix_in ks)))
-    (gives (semiring_in ks) (arithmetic_of (semiring_in ks)) (map matrix_in ks))
+    IsAnswer (common_faults faults ks) (gives (semiring_in ks) (arithmetic_of (semiring_in ks)) (map matrix_in ks))

@@ -3,32 +3,29 @@ use Rattle.std.specs.Prelude.{◌≡◌, ℕ, List, length, map, Option, Some, N
 use Rattle.cb_semirings.specs.Arithmetic.{Arithmetic}
 use Rattle.cb_semirings.specs.declared.names.SemiringName.{SemiringName}
 use Rattle.cb_semirings.specs.Names.{arithmetic_of, numbered}
-use Rattle.cb_operations.specs.declared.operations.Operation.{Operation}
-use Rattle.cb_operations.specs.OperationAnswers.{answer_of}
+use Rattle.cb_matrix.specs.Sparse.{Sparse}
 use Rattle.cb_kept.specs.declared.faults.Fault.{Fault}
-use Rattle.cb_kept.specs.declared.faults.Fault.TheVariants.{Test, Mixed}
+use Rattle.cb_kept.specs.declared.faults.Fault.TheVariants.{Test}
 use Rattle.cb_kept.specs.declared.kept.Kept.{Kept}
 use Rattle.cb_kept.specs.declared.kept_values.Summary.{Summary}
 use Rattle.cb_lists.specs.declared.lists.Columns.{Columns}
 use Rattle.cb_lists.specs.Lists.{matrix_of}
-use Rattle.cb_kept.specs.Kept.{Keeps, semiring_of, semiring_in, matrix_in, AreOver}
+use Rattle.cb_kept.specs.Kept.{Keeps, semiring_of, semiring_in, matrix_in}
 use Rattle.cb_kept.specs.KeptShares.{KeepsColumns}
-use Rattle.cb_kept.specs.CallsOver.{shape_faults}
-use Rattle.cb_kept.specs.Refusals.{Unless, over}
+use Rattle.cb_kept.specs.CallsOver.{common_faults}
+use Rattle.cb_kept.specs.Refusals.{over}
 use Rattle.cb_kept.specs.Answers.{IsAnswer}
 
--- the faults of an operation on kept matrices: no operation has the number, their semirings differ, or their shapes
--- don't agree
-unfoldable pub kept_faults : Option Operation → List Kept → Fault → Type 0
-kept_faults None ks = λ f. f ≡ Test
-kept_faults (Some operation) ks =
-    Unless (AreOver (semiring_in ks) ks) Mixed (shape_faults operation (map matrix_in ks))
+-- the faults of a call that has a number: no call has it, or those of the call on kept matrices
+unfoldable pub numbered_faults : {C : Type 0} → (C → Arithmetic → List Sparse → Fault → Type 0) → Option C → List Kept → Fault → Type 0
+numbered_faults faults None ks = λ f. f ≡ Test
+numbered_faults faults (Some call) ks = common_faults (faults call) ks
 
--- the columns of a range of the result of an operation on kept matrices, over their semiring
-abbrev pub HasMade : Option Operation → ℕ → ℕ → List Kept → Kept → Type 0
-HasMade None first end ks k = ⊥
-HasMade (Some operation) first end ks k =
-    KeepsColumns (semiring_in ks) (answer_of operation (arithmetic_of (semiring_in ks)) (map matrix_in ks)) first end k
+-- the columns of a range of its result, kept over their semiring
+abbrev pub HasColumns : {C : Type 0} → (C → Arithmetic → List Sparse → Sparse) → Option C → ℕ → ℕ → List Kept → Kept → Type 0
+HasColumns answer None first end ks k = ⊥
+HasColumns answer (Some call) first end ks k =
+    KeepsColumns (semiring_in ks) (answer call (arithmetic_of (semiring_in ks)) (map matrix_in ks)) first end k
 
 -- what holds over the semiring of a number, by its name; nothing does over none
 abbrev pub OverName : Option SemiringName → (SemiringName → Type 0) → Type 0

@@ -1,13 +1,14 @@
 -- Some columns of the result of a call on kept matrices, and where ranges of columns end.
-use Rattle.std.specs.Prelude.{◌≡◌, ℕ, ◌≤◌}
+use Rattle.std.specs.Prelude.{◌≡◌, ℕ, ◌≤◌, [], ◌∷◌}
 use Rattle.cb_semirings.specs.declared.names.SemiringName.{SemiringName}
 use Rattle.cb_matrix.specs.Sparse.{Sparse}
+use Rattle.cb_operations.specs.declared.operations.Operation.TheVariants.{Multiply}
 use Rattle.cb_shares.specs.Shares.{panel}
 use Rattle.cb_kept.specs.declared.faults.Fault.{Fault}
-use Rattle.cb_kept.specs.declared.faults.Fault.TheVariants.{Mixed, Shapes}
 use Rattle.cb_kept.specs.declared.kept.Kept.{Kept}
-use Rattle.cb_kept.specs.Kept.{Keeps, semiring_of, matrix_in}
-use Rattle.cb_kept.specs.Refusals.{Unless, IsMemory}
+use Rattle.cb_kept.specs.CallsOver.{common_faults, operation_faults}
+use Rattle.cb_kept.specs.Kept.{Keeps}
+use Rattle.cb_kept.specs.Refusals.{IsMemory}
 
 -- the range is that of all columns, where there are so many
 pub record IsWhole (first end cols : ℕ) : Type 0 where
@@ -21,9 +22,9 @@ pub record KeepsColumns (name : SemiringName) (whole : Sparse) (first end : ℕ)
 
 -- ---- where ranges of columns end
 -- the fault of two matrices whose columns are divided: their semirings differ
-unfoldable pub pair_faults : Kept → Kept → Fault → Type 0
-pair_faults a b = Unless (semiring_of b ≡ semiring_of a) Mixed IsMemory
+abbrev pub pair_faults : Kept → Kept → Fault → Type 0
+pair_faults a b = common_faults (λ s ms. IsMemory) (a ∷ b ∷ [])
 
--- the faults of two factors: their semirings differ, or the first doesn't have as many columns as the second has rows
-unfoldable pub factor_faults : Kept → Kept → Fault → Type 0
-factor_faults a b = Unless (semiring_of b ≡ semiring_of a) Mixed (Unless ((matrix_in a).shape.cols ≡ (matrix_in b).shape.rows) Shapes IsMemory)
+-- the faults of two factors, as of their product
+abbrev pub factor_faults : Kept → Kept → Fault → Type 0
+factor_faults a b = common_faults (operation_faults Multiply) (a ∷ b ∷ [])

@@ -1,10 +1,11 @@
 -- Shares of sums over the columns of a kept matrix: lists of a number for each row, and numbers.
-use Rattle.std.specs.Prelude.{◌≡◌, ℕ, List, length, map, All, Option, None, Some, Result, OnErr}
+use Rattle.std.specs.Prelude.{◌≡◌, ◌==◌, if◌then◌else◌, ℕ, List, length, map, All, Option, None, Some, Result, OnErr}
 use Rattle.cb_semirings.specs.Arithmetic.{Arithmetic, IsValue}
 use Rattle.cb_semirings.specs.Names.{arithmetic_of}
 use Rattle.cb_semirings.specs.declared.names.SemiringName.{SemiringName}
 use Rattle.cb_matrix.specs.Sparse.{Sparse}
 use Rattle.cb_operations.specs.declared.operations.Operation.{Operation}
+use Rattle.cb_operations.specs.declared.operations.Operation.TheVariants.{MultiplyVector, RowSums}
 use Rattle.cb_reshape.specs.Sums.{matrix_total}
 use Rattle.cb_shares.specs.Shares.{panel}
 use Rattle.cb_shares.specs.Sums.{AddsShares, AddsTotals, IsColumnOf, IsListOf, share_of}
@@ -16,6 +17,10 @@ use Rattle.cb_kept.specs.Answers.{IsAnswer}
 use Rattle.cb_kept.specs.Kept.{semiring_of, semiring_in, matrix_in}
 use Rattle.cb_kept.specs.KeptShares.{IsWhole}
 use Rattle.cb_kept.specs.Refusals.{Unless, IsMemory}
+
+-- the operation of a number, if its result is a sum over columns
+abbrev pub sum_of : ℕ → Option Operation
+sum_of n = if n == 2 then Some MultiplyVector else (if n == 4 then Some RowSums else None)
 
 -- what some columns of the first of kept matrices add to the answer of an operation, as a list
 abbrev pub IsKeptShare : Option Operation → ℕ → ℕ → List Kept → Sums → Type 0

@@ -7,11 +7,9 @@ use Rattle.cb_market_lines.specs.declared.ReadFault.{ReadFault}
 use Rattle.cb_market_lines.specs.Faults.{first_fault}
 use Rattle.cb_lists.specs.declared.lists.Columns.{Columns}
 use Rattle.cb_operations.specs.declared.refusals.Refusal.{Refusal}
-use Rattle.cb_operations.specs.declared.refusals.Refusal.TheVariants as graph_refusal_is
-use Rattle.cb_operations.specs.declared.refusals.SelectionRefusal.{SelectionRefusal}
-use Rattle.cb_operations.specs.declared.refusals.SelectionRefusal.TheVariants as refusal_is
-use Rattle.cb_selections.specs.declared.selections.SelectionFault.{SelectionFault}
-use Rattle.cb_selections.specs.declared.selections.SelectionFault.TheVariants as selection_is
+use Rattle.cb_operations.specs.declared.refusals.Refusal.TheVariants as refusal_is
+use Rattle.cb_operations.specs.declared.refusals.ComputeFault.{ComputeFault}
+use Rattle.cb_operations.specs.declared.refusals.ComputeFault.TheVariants as compute_fault
 use Rattle.cb_kept.specs.declared.faults.Fault.{Fault}
 use Rattle.cb_kept.specs.declared.faults.Fault.TheVariants.{Semiring, Test, Mixed, Form, TooLarge, Lengths, Order, Place, Value, Shapes, NotColumn, NotSquare, Source, Text, Memory}
 use Rattle.cb_lists.specs.Lists.{HasForm, Fits, HaveLengths, AreOrdered, AreInside, AreValues}
@@ -34,27 +32,22 @@ code_of Text = 13
 code_of Memory = 14
 code_of NotColumn = 16
 
--- the fault of a selection that is refused
-abbrev pub refused_as : SelectionRefusal → Fault
+-- the fault of what is refused
+abbrev pub refused_as : Refusal → Fault
 refused_as refusal_is.Shapes = Shapes
 refused_as refusal_is.NoValue = Value
 refused_as refusal_is.NotColumn = NotColumn
 refused_as refusal_is.NotSquare = NotSquare
+refused_as refusal_is.Source = Source
 refused_as refusal_is.TooLarge = TooLarge
 refused_as refusal_is.Place = Place
 refused_as refusal_is.NoRow = Place
 refused_as refusal_is.NoColumn = Place
 
--- the fault of a graph that is refused, or of what a task takes beside it
-abbrev pub graph_refused_as : Refusal → Fault
-graph_refused_as graph_refusal_is.Shapes = Shapes
-graph_refused_as graph_refusal_is.NotSquare = NotSquare
-graph_refused_as graph_refusal_is.Source = Source
-
--- the fault of a selection that isn't made
-abbrev pub selection_fault_of : SelectionFault → Fault
-selection_fault_of (selection_is.Refused refusal) = refused_as refusal
-selection_fault_of selection_is.Memory = Memory
+-- the fault of what isn't computed
+abbrev pub uncomputed_as : ComputeFault → Fault
+uncomputed_as (compute_fault.Refused refusal) = refused_as refusal
+uncomputed_as compute_fault.Memory = Memory
 
 -- the fault g if P doesn't hold, or else one of the faults that come next
 abbrev pub Unless : Type 0 → Fault → (Fault → Type 0) → Fault → Type 0

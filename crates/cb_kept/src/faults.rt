@@ -1,9 +1,8 @@
 //! Why a call fails.
 ghost use Rattle.std.specs.Prelude.{◌≡◌, ◌≢◌};
-ghost use Rattle.cb_kept.specs.Refusals.{code_of, refused_as};
+ghost use Rattle.cb_kept.specs.Refusals.{code_of};
 
-use cb_operations::{Refusal, SelectionRefusal};
-use cb_selections::SelectionFault;
+use cb_operations::{ComputeFault, Refusal};
 use std::alloc::AllocError;
 
 /// Why a call fails. A call looks for faults in the order of these variants. `Memory` comes last.
@@ -52,28 +51,34 @@ impl From<AllocError> for Fault {
 }
 
 impl From<Refusal> for Fault {
-    ghost use Rattle.cb_kept.specs.Refusals.{graph_refused_as};
+    ghost use Rattle.cb_kept.specs.Refusals.{refused_as};
 
-    ghost from_gives = { λ refusal fault. fault ≡ graph_refused_as refusal };
+    ghost from_gives = { λ refusal fault. fault ≡ refused_as refusal };
 
     fn from(refusal: Refusal) -> Fault {
         match refusal {
             Refusal::Shapes => Fault::Shapes,
+            Refusal::NoValue => Fault::Value,
+            Refusal::NotColumn => Fault::NotColumn,
             Refusal::NotSquare => Fault::NotSquare,
             Refusal::Source => Fault::Source,
+            Refusal::TooLarge => Fault::TooLarge,
+            Refusal::Place => Fault::Place,
+            Refusal::NoRow => Fault::Place,
+            Refusal::NoColumn => Fault::Place,
         }
     }
 }
 
-impl From<SelectionFault> for Fault {
-    ghost use Rattle.cb_kept.specs.Refusals.{selection_fault_of};
+impl From<ComputeFault> for Fault {
+    ghost use Rattle.cb_kept.specs.Refusals.{uncomputed_as};
 
-    ghost from_gives = { λ fault made. made ≡ selection_fault_of fault };
+    ghost from_gives = { λ fault made. made ≡ uncomputed_as fault };
 
-    fn from(fault: SelectionFault) -> Fault {
+    fn from(fault: ComputeFault) -> Fault {
         match fault {
-            SelectionFault::Refused(refusal) => Fault::of_refusal(refusal),
-            SelectionFault::Memory => Fault::Memory,
+            ComputeFault::Refused(refusal) => refusal.into(),
+            ComputeFault::Memory => Fault::Memory,
         }
     }
 }
@@ -100,22 +105,6 @@ impl Fault {
             Fault::Text => 13,
             Fault::Memory => 14,
             Fault::NotColumn => 16,
-        }
-    }
-
-    /// Returns the fault of a selection that is refused.
-    pub(crate) fn of_refusal(refusal: SelectionRefusal) -> Fault
-        ensures { result ≡ refused_as refusal }
-    {
-        match refusal {
-            SelectionRefusal::Shapes => Fault::Shapes,
-            SelectionRefusal::NoValue => Fault::Value,
-            SelectionRefusal::NotColumn => Fault::NotColumn,
-            SelectionRefusal::NotSquare => Fault::NotSquare,
-            SelectionRefusal::TooLarge => Fault::TooLarge,
-            SelectionRefusal::Place => Fault::Place,
-            SelectionRefusal::NoRow => Fault::Place,
-            SelectionRefusal::NoColumn => Fault::Place,
         }
     }
 }

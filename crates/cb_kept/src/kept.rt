@@ -119,6 +119,13 @@ impl Kept {
         of_matrix!(self, matrix => matrix.len())
     }
 
+    /// Frees the matrix, and leaves another in its place.
+    pub(crate) fn set(&mut self, kept: Kept)
+        ensures { self.new ≡ kept }
+    {
+        *self = kept;
+    }
+
     /// A matrix without rows, columns and entries.
     pub(crate) fn nothing(alloc: Global) -> Kept
         ensures { result ≡ nothing }

@@ -1,19 +1,12 @@
-//! The checks of calls on kept matrices. Each matrix is well formed: operands only have to agree with one another.
-ghost use Rattle.std.specs.Prelude.{◌≡◌, ◌↔◌, ◌<◌, IsTrue, length, All, IfSome, IfNone, IfOk, IfErr};
+//! The check of calls on several kept matrices, each of which is well formed: they are over one semiring.
+ghost use Rattle.std.specs.Prelude.{◌≡◌, ◌↔◌, ◌<◌, IsTrue, length, All, IfSome, IfNone};
 ghost use Rattle.std.specs.Borrow.{Bor};
 ghost use Rattle.cb_operations.specs.Operands.{lent_in};
-ghost use Rattle.cb_operations.specs.OperationAnswers.{operand_count_of, Agree, IsShapeOfAnswers, shapes_in};
 ghost use Rattle.cb_kept.specs.declared.kept.Kept.{Kept as KeptValue};
-ghost use Rattle.cb_kept.specs.Answers.{NoFault};
 ghost use Rattle.cb_kept.specs.Kept.{AreOver, semiring_of, semiring_in};
-ghost use Rattle.cb_kept.specs.CallsOver.{shape_faults};
 
-use crate::faults::Fault;
 use crate::kept::Kept;
-use cb_layout::PanelledMatrix;
-use cb_matrix::Shape;
-use cb_operations::Operation;
-use cb_semirings::{Semiring, SemiringName};
+use cb_semirings::SemiringName;
 
 /// Whether a matrix is over a semiring.
 fn is_over(kept: &Kept, semiring: SemiringName) -> bool
@@ -45,28 +38,5 @@ pub(crate) fn one_semiring(operands: &[&Kept]) -> Option<SemiringName>
         Some(semiring)
     } else {
         None
-    }
-}
-
-/// The shape of the result of an operation. Refuses matrices whose shapes don't agree.
-pub(crate) fn check_shapes<S: Semiring>(
-    operation: Operation,
-    operands: &[&PanelledMatrix<S>],
-) -> Result<Shape, Fault>
-    requires { length operands.now ≡ operand_count_of operation }
-    ensures agree { IfOk result (λ _. Agree operation (shapes_in (lent_in operands.now))) }
-    ensures shape { IfOk result (IsShapeOfAnswers operation (shapes_in (lent_in operands.now))) }
-    ensures none { IfOk result (λ _. NoFault (shape_faults operation (lent_in operands.now))) }
-    ensures fault { IfErr result (shape_faults operation (lent_in operands.now)) }
-{
-    let shape = match operands {
-        [a] => operation.shape_of(&[a.shape()]),
-        [a, b] => operation.shape_of(&[a.shape(), b.shape()]),
-        [a, b, c] => operation.shape_of(&[a.shape(), b.shape(), c.shape()]),
-        _ => unreachable!(),
-    };
-    match shape {
-        Some(shape) => Ok(shape),
-        None => Err(Fault::Shapes),
     }
 }

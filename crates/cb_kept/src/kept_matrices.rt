@@ -1,5 +1,5 @@
 //! A kept matrix with its transpose, which calls use that need it.
-ghost use Rattle.std.specs.Prelude.{◌≡◌, IfErr, IfOk, IfSome, OnErr, OnOk};
+ghost use Rattle.std.specs.Prelude.{◌≡◌, IfErr, IfOk, IfSome, IsNone, OnErr, OnOk};
 ghost use Rattle.cb_matrix.specs.Values.{empty_matrix};
 ghost use Rattle.cb_kept.specs.Answers.{IsAnswer};
 ghost use Rattle.cb_kept.specs.Kept.{IsTransposeOf, Keeps, matrix_in, nothing, semiring_of};
@@ -8,9 +8,9 @@ ghost use Rattle.cb_kept.specs.Refusals.{IsMemory};
 
 use crate::faults::Fault;
 use crate::kept::Kept;
-use crate::kept_operations::kept_operation;
+use crate::kept_computations::kept_computation;
 use crate::kept_panels::join_alone;
-use cb_operations::Operation;
+use cb_operations::{Computation, Operation};
 use std::alloc::Global;
 use std::marker::Model;
 
@@ -40,11 +40,19 @@ fn transposed(alloc: Global, matrix: &Kept) -> Result<Kept, Fault>
     ensures fault { IfErr result IsMemory }
 {
     let columns = matrix.shape().rows();
+    let transpose = Some(Computation::Operation(Operation::Transpose));
     // A transpose has no other fault.
-    let Ok(turned) = kept_operation(alloc, Some(Operation::Transpose), &[matrix], 0, columns) else {
+    let Ok(turned) = kept_computation(alloc, transpose, &[matrix], 0, columns) else {
         return Err(Fault::Memory);
     };
     Ok(turned)
+}
+
+/// Frees a matrix, if there is one.
+fn free(place: &mut Option<Box<Kept>>)
+    ensures { IsNone place.new }
+{
+    *place = None;
 }
 
 impl KeptMatrix {
@@ -95,7 +103,8 @@ impl KeptMatrix {
     pub fn clear(&mut self, alloc: Global)
         ensures { self.new ≡ nothing }
     {
-        *self = KeptMatrix::new(Kept::nothing(alloc));
+        free(&mut self.turned);
+        self.matrix.set(Kept::nothing(alloc));
     }
 }
 
@@ -108,7 +117,7 @@ pub fn kept_join(alloc: Global, front: &mut KeptMatrix, back: &mut KeptMatrix) -
     ensures front { OnErr result (Keeps (semiring_of front.old) (matrix_in front.old) front.new) }
     ensures back { OnErr result (Keeps (semiring_of back.old) (matrix_in back.old) back.new) }
 {
-    front.turned = None;
-    back.turned = None;
+    free(&mut front.turned);
+    free(&mut back.turned);
     join_alone(alloc, &mut front.matrix, &mut back.matrix)
 }

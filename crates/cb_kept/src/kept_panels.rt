@@ -72,8 +72,8 @@ fn append_kept<S: Keep>(alloc: Global, front: &mut Kept, back: &mut Kept) -> Res
     let mut first = taken_from::<S>(alloc, front);
     let mut last = taken_from::<S>(alloc, back);
     let joined = join_panels(alloc, &mut first, &mut last);
-    *front = S::keep(alloc, &mut first);
-    *back = S::keep(alloc, &mut last);
+    front.set(S::keep(alloc, &mut first));
+    back.set(S::keep(alloc, &mut last));
     joined
 }
 

@@ -1,23 +1,17 @@
 //! Shares of a call on kept matrices, for threads of a program in another language: some columns of its result, and where the
 //! ranges of columns end. The whole result is the range of all columns.
-ghost use Rattle.std.specs.Prelude.{◌≡◌, ◌↔◌, ◌<◌, ◌≤◌, IsTrue, length};
-ghost use Rattle.cb_operations.specs.OperationAnswers.{matrix_at};
-ghost use Rattle.cb_operations.specs.Operands.{lent_in};
 ghost use Rattle.cb_shares.specs.Shares.{AreEnds};
 ghost use Rattle.cb_kept.specs.Answers.{IsAnswer};
 ghost use Rattle.cb_kept.specs.Kept.{matrix_in};
-ghost use Rattle.cb_kept.specs.KeptShares.{factor_faults, pair_faults, IsWhole};
+ghost use Rattle.cb_kept.specs.KeptShares.{factor_faults, pair_faults};
 
 use crate::faults::Fault;
 use crate::kept::{Keep, Kept};
 use crate::kept_calls::{KeptCall, kept_call};
-use crate::kept_checks::check_shapes;
 use cb_layout::PanelledMatrix;
-use cb_matrix::LIMIT;
-use cb_operations::Operation;
+use cb_operations::{Computation, Operation};
 use cb_product::LEAST_PRODUCTS;
-use cb_semirings::Semiring;
-use cb_shares::{ends_by_entries, ends_of};
+use cb_shares::{check, ends_by_entries, ends_of};
 use std::alloc::Global;
 
 /// The fewest entries that are worth a thread.
@@ -29,22 +23,6 @@ pub(crate) struct Share<C> {
     pub(crate) call: C,
     pub(crate) first: u32,
     pub(crate) end: u32,
-}
-
-/// Whether a range is that of all columns, where there are so many.
-pub(crate) fn is_whole(first: u32, end: u32, cols: u64) -> bool
-    ensures { IsTrue result ↔ IsWhole first end cols }
-{
-    first == 0 && cols <= u64::from(end)
-}
-
-/// How many columns the first of some matrices has.
-pub(crate) fn columns_of_first<S: Semiring>(operands: &[&PanelledMatrix<S>]) -> u64
-    requires { 0 < length operands.now }
-    ensures count { result ≡ (matrix_at (lent_in operands.now) 0).shape.cols }
-    ensures limit { result ≤ LIMIT }
-{
-    u64::from(operands[0].shape().cols())
 }
 
 /// Where each of `count` ranges of the columns of two matrices ends.
@@ -81,7 +59,6 @@ impl KeptCall for EntryEnds {
 /// Returns where each of `count` ranges of the columns of two kept matrices ends, which may be the same. All ranges take about
 /// the same number of entries, and about [`LEAST_ENTRIES`] or more: ranges that are left over have no columns. Costs a few
 /// binary searches for each range.
-#[tactic(auto, using(crate::proofs::KeptFirsts::of_pair), unfolding(crate::specs::KeptShares::pair_faults))]
 pub fn kept_entry_ends(alloc: Global, a: &Kept, b: &Kept, count: usize) -> Result<Vec<u32>, Fault>
     ensures { IsAnswer (pair_faults a.now b.now) (λ ends. AreEnds count (matrix_in a.now).shape.cols ends.items) result }
 {
@@ -99,22 +76,23 @@ impl KeptCall for ProductEnds {
     ghost use Rattle.cb_operations.specs.declared.operations.Operation.TheVariants.{Multiply};
     ghost use Rattle.cb_operations.specs.OperationAnswers.{matrix_at};
     ghost use Rattle.cb_shares.specs.Shares.{AreEnds};
-    ghost use Rattle.cb_kept.specs.CallsOver.{shape_faults};
+    ghost use Rattle.cb_kept.specs.CallsOver.{operation_faults};
 
     type Answer = Vec<u32>;
 
     ghost takes = { λ _ n. n ≡ 2 };
 
-    ghost faults = { λ _ s ms. shape_faults Multiply ms };
+    ghost faults = { λ _ s ms. operation_faults Multiply s ms };
 
     ghost gives = { λ c name s ms ends. AreEnds c.count (matrix_at ms 1).shape.cols ends.items };
 
+    #[tactic(auto, using(crate::proofs::Firsts::refused_fault, crate::proofs::Firsts::none_of_computed))]
     fn over<S: Keep>(
         &self,
         alloc: Global,
         operands: &[&PanelledMatrix<S>],
     ) -> Result<Vec<u32>, Fault> {
-        check_shapes(Operation::Multiply, operands)?;
+        check::<S>(Computation::Operation(Operation::Multiply), operands)?;
         let [a, b] = operands else { unreachable!() };
         let a = a.whole()?;
         let b = b.whole()?;
@@ -126,7 +104,6 @@ impl KeptCall for ProductEnds {
 /// Returns where each of `count` ranges of a product's columns ends. All ranges take about the same number of products of
 /// two values, and about [`LEAST_PRODUCTS`] or more: ranges that are left over have no columns. Costs an index of the left
 /// matrix's columns, and a pass over the right matrix's entries.
-#[tactic(auto, using(crate::proofs::KeptFirsts::of_pair), unfolding(crate::specs::KeptShares::factor_faults))]
 pub fn kept_ends(alloc: Global, left: &Kept, right: &Kept, count: usize) -> Result<Vec<u32>, Fault>
     ensures { IsAnswer (factor_faults left.now right.now) (λ ends. AreEnds count (matrix_in right.now).shape.cols ends.items) result }
 {

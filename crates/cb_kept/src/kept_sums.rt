@@ -8,18 +8,18 @@ ghost use Rattle.cb_operations.specs.Operands.{lent_in};
 ghost use Rattle.cb_shares.specs.Sums.{IsSumOfColumns};
 ghost use Rattle.cb_kept.specs.Answers.{IsAnswer, NoFault};
 ghost use Rattle.cb_kept.specs.Kept.{semiring_of, matrix_in};
-ghost use Rattle.cb_kept.specs.KeptAnswers.{kept_faults};
-ghost use Rattle.cb_kept.specs.KeptSums.{IsAddedShare, IsColumnOver, IsKeptColumn, IsKeptShare, IsTotal, share_faults, sum_faults};
+ghost use Rattle.cb_kept.specs.CallsOver.{operation_faults};
+ghost use Rattle.cb_kept.specs.KeptAnswers.{numbered_faults};
+ghost use Rattle.cb_kept.specs.KeptSums.{IsAddedShare, IsColumnOver, IsKeptColumn, IsKeptShare, IsTotal, share_faults, sum_faults, sum_of};
 
 use crate::faults::Fault;
 use crate::kept::{Keep, Kept, keep_block, of_matrix};
 use crate::kept_calls::{KeptCall, kept_call};
-use crate::kept_checks::check_shapes;
 use cb_layout::PanelledMatrix;
 use cb_matrix::Shape;
-use cb_operations::Operation;
+use cb_operations::{Computation, Operation};
 use cb_semirings::{Semiring, SemiringName, over_semiring};
-use cb_shares::{add_share, column_of_sums, share_of_sum, total_of_columns};
+use cb_shares::{add_share, check, column_of_sums, share_of_sum, total_of_columns};
 use std::alloc::Global;
 
 /// A list with a number for each row.
@@ -27,6 +27,19 @@ use std::alloc::Global;
 #[derive(Clone, Copy)]
 pub struct Sums {
     pub values: &'static [u64],
+}
+
+/// Returns the operation of a number ([`Operation::numbered`]) if its result is a sum over the columns of its first operand: the
+/// product with a vector, or the sums of rows.
+pub fn sum_of(number: u32) -> Option<Operation>
+    ensures operation { result ≡ sum_of number }
+    ensures sum { IfSome result IsSumOfColumns }
+{
+    match number {
+        2 => Some(Operation::MultiplyVector),
+        4 => Some(Operation::RowSums),
+        _ => None,
+    }
 }
 
 /// What some columns of the first matrix add to the result of an operation.
@@ -41,18 +54,19 @@ impl KeptCall for SumShare {
     ghost use Rattle.std.specs.Prelude.{◌≡◌};
     ghost use Rattle.cb_operations.specs.OperationAnswers.{operand_count_of};
     ghost use Rattle.cb_shares.specs.Sums.{IsListOf, IsSumOfColumns, share_of};
-    ghost use Rattle.cb_kept.specs.CallsOver.{shape_faults};
+    ghost use Rattle.cb_kept.specs.CallsOver.{operation_faults};
 
     type Answer = Sums;
 
     ghost takes = { λ c n. IsSumOfColumns c.operation × (n ≡ operand_count_of c.operation) };
 
-    ghost faults = { λ c s ms. shape_faults c.operation ms };
+    ghost faults = { λ c s ms. operation_faults c.operation s ms };
 
     ghost gives = { λ c name s ms sums. IsListOf s (share_of c.operation s ms c.first c.end) sums.values.now };
 
+    #[tactic(auto, using(crate::proofs::Firsts::refused_fault, crate::proofs::Firsts::none_of_computed))]
     fn over<S: Keep>(&self, alloc: Global, operands: &[&PanelledMatrix<S>]) -> Result<Sums, Fault> {
-        check_shapes(self.operation, operands)?;
+        check::<S>(Computation::Operation(self.operation), operands)?;
         let list = share_of_sum(alloc, self.operation, operands, self.first, self.end)?;
         Ok(Sums {
             values: list.leak(),
@@ -63,7 +77,7 @@ impl KeptCall for SumShare {
 /// Returns what the columns of the first kept matrix from `first` up to, but not including, `end` add to a product with a vector
 /// or to sums of rows, as a list with a number for each row, which belongs to the caller. `None` stands for a number of another
 /// operation. The faults are those of the whole operation. Costs what [`cb_shares::share_of_sum`] costs.
-#[tactic(auto, unfolding(crate::specs::KeptAnswers::kept_faults))]
+#[tactic(auto, unfolding(crate::specs::KeptAnswers::numbered_faults))]
 pub fn kept_share_of_sum(
     alloc: Global,
     operation: Option<Operation>,
@@ -73,7 +87,7 @@ pub fn kept_share_of_sum(
 ) -> Result<Sums, Fault>
     requires sum { IfSome operation IsSumOfColumns }
     requires count { IfSome operation (λ o. length operands.now ≡ operand_count_of o) }
-    ensures { IsAnswer (kept_faults operation (lent_in operands.now)) (IsKeptShare operation first end (lent_in operands.now)) result }
+    ensures { IsAnswer (numbered_faults operation_faults operation (lent_in operands.now)) (IsKeptShare operation first end (lent_in operands.now)) result }
 {
     let Some(operation) = operation else {
         return Err(Fault::Test);

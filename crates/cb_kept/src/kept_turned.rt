@@ -35,16 +35,17 @@ fn agree(turns: Turns, left: Shape, right: Shape) -> bool
 impl KeptCall for Turns {
     ghost use Rattle.std.specs.Prelude.{◌≡◌};
     ghost use Rattle.cb_operations.specs.OperationAnswers.{matrix_at};
-    ghost use Rattle.cb_selections.specs.TurnedProducts.{turned_product, turned_shape};
+    ghost use Rattle.cb_selections.specs.TurnedProducts.{turned_product};
     ghost use Rattle.cb_kept.specs.declared.faults.Fault.TheVariants.{Shapes};
     ghost use Rattle.cb_kept.specs.Kept.{Keeps};
+    ghost use Rattle.cb_kept.specs.KeptTurned.{AgreeTurned};
     ghost use Rattle.cb_kept.specs.Refusals.{Unless, IsMemory};
 
     type Answer = Kept;
 
     ghost takes = { λ _ n. n ≡ 2 };
 
-    ghost faults = { λ t s ms. Unless ((turned_shape t.left (matrix_at ms 0).shape).cols ≡ (turned_shape t.right (matrix_at ms 1).shape).rows) Shapes IsMemory };
+    ghost faults = { λ t s ms. Unless (AgreeTurned t.left t.right ms) Shapes IsMemory };
 
     ghost gives = { λ t name s ms. Keeps name (turned_product s t.left t.right (matrix_at ms 0) (matrix_at ms 1)) };
 
@@ -62,7 +63,6 @@ impl KeptCall for Turns {
 
 /// Multiplies two kept matrices over one semiring, and keeps the product. `turn_left` and `turn_right` say whether the first
 /// and the second are transposed first; their shapes have to agree after that.
-#[tactic(auto, using(crate::proofs::KeptFirsts::of_pair), unfolding(crate::specs::KeptTurned::turned_faults))]
 pub fn kept_turned_product(
     alloc: Global,
     left: &Kept,

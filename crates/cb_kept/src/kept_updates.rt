@@ -1,19 +1,17 @@
 //! A kept matrix updated by another one, under a mask that is kept too, whole or some columns of it.
-ghost use Rattle.std.specs.Prelude.{◌≡◌, ◌≤◌, None, length, IfOk, IfErr, option_copied};
+ghost use Rattle.std.specs.Prelude.{◌≡◌, ◌≤◌, length, IfOk, IfErr, option_copied};
 ghost use Rattle.cb_operations.specs.Operands.{lent_in};
-ghost use Rattle.cb_selections.specs.Updates.{updated};
 ghost use Rattle.cb_shares.specs.Shares.{panel};
 ghost use Rattle.cb_kept.specs.Answers.{NoFault};
-ghost use Rattle.cb_kept.specs.CallsOver.{IsCallOverCommon};
-ghost use Rattle.cb_kept.specs.KeptUpdates.{write_back_of, operands_of, HaveOneShape, one_shape_faults, update_of, IsUpdate};
+ghost use Rattle.cb_kept.specs.KeptUpdates.{write_back_of, operands_of, HaveOneShape, shape_faults, update_of, IsUpdate};
 
 use crate::faults::Fault;
 use crate::kept::{Keep, Kept, keep_block};
 use crate::kept_calls::{KeptCall, kept_call};
-use crate::kept_shares::{Share, columns_of_first, is_whole};
+use crate::kept_shares::Share;
 use cb_dcsc::Block;
 use cb_layout::PanelledMatrix;
-use cb_selections::{WriteBack, update};
+use cb_selections::WriteBack;
 use cb_semirings::Semiring;
 use cb_shares::update_columns;
 use std::alloc::{AllocError, Global};
@@ -38,8 +36,8 @@ fn check_update<S: Semiring>(operands: &[&PanelledMatrix<S>]) -> Result<(), Faul
     requires some { 2 ≤ length operands.now }
     requires few { length operands.now ≤ 3 }
     ensures shape { IfOk result (λ _. HaveOneShape (lent_in operands.now)) }
-    ensures none { IfOk result (λ _. NoFault (one_shape_faults (lent_in operands.now))) }
-    ensures fault { IfErr result (one_shape_faults (lent_in operands.now)) }
+    ensures none { IfOk result (λ _. NoFault (shape_faults S.arithmetic (lent_in operands.now))) }
+    ensures fault { IfErr result (shape_faults S.arithmetic (lent_in operands.now)) }
 {
     let same = match operands {
         [old, new, mask] => new.shape() == old.shape() && mask.shape() == old.shape(),
@@ -47,47 +45,6 @@ fn check_update<S: Semiring>(operands: &[&PanelledMatrix<S>]) -> Result<(), Faul
         _ => unreachable!(),
     };
     if same { Ok(()) } else { Err(Fault::Shapes) }
-}
-
-/// A block, updated without a mask.
-fn update_all<'a, S: Semiring>(
-    alloc: Global,
-    how: WriteBack,
-    old: &'a Block<S>,
-    new: &'a Block<S>,
-) -> Result<Block<S>, AllocError>
-    requires { new.now.shape ≡ old.now.shape }
-    ensures { IfOk result (λ m. m ≡ updated S.arithmetic how None old.now new.now) }
-{
-    let no_mask: Option<&'a Block<S>> = None;
-    update(alloc, how, old, new, no_mask)
-}
-
-/// A matrix, updated by another one, under a mask if there is one.
-fn made<S: Semiring>(
-    alloc: Global,
-    how: WriteBack,
-    operands: &[&PanelledMatrix<S>],
-) -> Result<Block<S>, AllocError>
-    requires some { 2 ≤ length operands.now }
-    requires few { length operands.now ≤ 3 }
-    requires shape { HaveOneShape (lent_in operands.now) }
-    ensures { IfOk result (λ m. m ≡ update_of how S.arithmetic (lent_in operands.now)) }
-{
-    match operands {
-        [old, new] => {
-            let old = old.whole()?;
-            let new = new.whole()?;
-            update_all(alloc, how, old.block(), new.block())
-        }
-        [old, new, mask] => {
-            let old = old.whole()?;
-            let new = new.whole()?;
-            let mask = mask.whole()?;
-            update(alloc, how, old.block(), new.block(), Some(mask.block()))
-        }
-        _ => unreachable!(),
-    }
 }
 
 /// Some columns of a matrix, updated by another one, under a mask if there is one.
@@ -115,50 +72,27 @@ fn updated_columns<'a, S: Semiring>(
 impl KeptCall for Share<WriteBack> {
     ghost use Rattle.std.specs.Prelude.{◌≤◌};
     ghost use Rattle.cb_kept.specs.KeptShares.{KeepsColumns};
-    ghost use Rattle.cb_kept.specs.KeptUpdates.{one_shape_faults, update_of};
+    ghost use Rattle.cb_kept.specs.KeptUpdates.{shape_faults, update_of};
 
     type Answer = Kept;
 
     ghost takes = { λ _ n. (2 ≤ n) × (n ≤ 3) };
 
-    ghost faults = { λ _ s ms. one_shape_faults ms };
+    ghost faults = { λ _ s ms. shape_faults s ms };
 
     ghost gives = { λ c name s ms. KeepsColumns name (update_of c.call s ms) c.first c.end };
 
     fn over<S: Keep>(&self, alloc: Global, operands: &[&PanelledMatrix<S>]) -> Result<Kept, Fault> {
         check_update(operands)?;
-        if is_whole(self.first, self.end, columns_of_first(operands)) {
-            let block = made(alloc, self.call, operands)?;
-            return Ok(keep_block::<S>(alloc, block));
-        }
         let block = updated_columns(alloc, self, operands)?;
         Ok(keep_block::<S>(alloc, block))
     }
 }
 
-/// Answers a call on an old matrix, a new one, and a mask if there is one.
-fn update_call<C: KeptCall>(
-    alloc: Global,
-    call: &C,
-    old: &Kept,
-    new: &Kept,
-    mask: Option<&Kept>,
-) -> Result<C::Answer, Fault>
-    requires two { C.takes call.now 2 }
-    requires three { C.takes call.now 3 }
-    ensures { IsCallOverCommon (C.faults call.now) (C.gives call.now) (operands_of old.now new.now (option_copied mask.entry)) result }
-{
-    match mask {
-        Some(mask) => kept_call(alloc, call, &[old, new, mask]),
-        None => kept_call(alloc, call, &[old, new]),
-    }
-}
-
 /// Keeps the columns from `first` up to, but not including, `end` of a kept matrix that is updated by a new one at the places
 /// that the mask allows ([`cb_selections::update`]), in the shape of the whole. `None` for how it writes stands for an unknown
-/// number. The faults are those of the whole update. All columns cost what the update costs; some cost what
-/// [`cb_shares::update_columns`] costs.
-#[tactic(auto, unfolding(crate::specs::KeptUpdates::update_faults))]
+/// number. The faults are those of the whole update. Costs what [`cb_shares::update_columns`] costs.
+#[tactic(auto, unfolding(crate::specs::KeptAnswers::numbered_faults))]
 pub fn kept_update(
     alloc: Global,
     how: Option<WriteBack>,
@@ -168,10 +102,14 @@ pub fn kept_update(
     first: u32,
     end: u32,
 ) -> Result<Kept, Fault>
-    ensures { IsUpdate how first end old.now new.now (option_copied mask.entry) result }
+    ensures { IsUpdate how first end (operands_of old.now new.now (option_copied mask.entry)) result }
 {
-    match how {
-        Some(call) => update_call(alloc, &Share { call, first, end }, old, new, mask),
-        None => Err(Fault::Test),
+    let Some(call) = how else {
+        return Err(Fault::Test);
+    };
+    let share = Share { call, first, end };
+    match mask {
+        Some(mask) => kept_call(alloc, &share, &[old, new, mask]),
+        None => kept_call(alloc, &share, &[old, new]),
     }
 }

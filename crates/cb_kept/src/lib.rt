@@ -12,19 +12,17 @@
 #![tactic(auto)]
 
 mod checks;
-mod choices;
 mod faults;
 mod incoming;
 mod kept;
 mod kept_calls;
 mod kept_checks;
+mod kept_computations;
+mod kept_extracts;
 mod kept_graphs;
 mod kept_lists;
 mod kept_matrices;
-mod kept_operations;
 mod kept_panels;
-mod kept_products;
-mod kept_selections;
 mod kept_shares;
 mod kept_sums;
 mod kept_texts;
@@ -35,17 +33,17 @@ mod misfits;
 mod texts;
 mod triples;
 
-pub use choices::{Choice, operation_of, selection_of, sum_of};
 pub use faults::Fault;
 pub use kept::Kept;
+pub use kept_computations::kept_computation;
+pub use kept_extracts::kept_extract;
 pub use kept_graphs::{KeptAnswer, graph_task_of, kept_graph};
 pub use kept_lists::{keep_lists, lists_of};
 pub use kept_matrices::{KeptMatrix, kept_join};
-pub use kept_operations::kept_operation;
-pub use kept_products::kept_outside;
-pub use kept_selections::{kept_extract, kept_selection};
 pub use kept_shares::{kept_ends, kept_entry_ends};
-pub use kept_sums::{Sums, kept_add_share, kept_column_of_sums, kept_share_of_sum, kept_total};
+pub use kept_sums::{
+    Sums, kept_add_share, kept_column_of_sums, kept_share_of_sum, kept_total, sum_of,
+};
 pub use kept_texts::{read_kept, text_of};
 pub use kept_turned::kept_turned_product;
 pub use kept_updates::{kept_update, write_back_of};

@@ -5,7 +5,7 @@ ghost use Rattle.cb_mailbox.specs.Inbox.{is_stranger};
 ghost use Rattle.cb_mailbox.specs.Run.{IsPostable};
 
 use cb_letters::{Body, Capacity, Letter, PostRefusal, Tag, Taken};
-use cb_mailbox::{Answer, Call, Mailbox};
+use cb_mailbox::{Call, Mailbox, Reply};
 use std::alloc::{AllocError, Global};
 
 fn post(from: u16, sheet: u64) -> Call<u64>
@@ -21,7 +21,7 @@ fn post(from: u16, sheet: u64) -> Call<u64>
 /// The answer to a take of this letter.
 macro_rules! took {
     ($from:literal, $to:literal, $number:literal, $sheet:literal) => {
-        Answer::Took(Taken::Letter(Letter {
+        Reply::Took(Taken::Letter(Letter {
             from: $from,
             to: $to,
             number: $number,
@@ -34,7 +34,7 @@ macro_rules! took {
 /// The answer to a post of this sheet that was refused.
 macro_rules! refused {
     ($refusal:ident, $sheet:literal) => {
-        Answer::Refused(PostRefusal::$refusal, Some(Body::Sheet($sheet)))
+        Reply::Refused(PostRefusal::$refusal, Some(Body::Sheet($sheet)))
     };
 }
 
@@ -43,7 +43,7 @@ fn answered(
     alloc: Global,
     mailbox: &mut Mailbox<u64>,
     calls: Vec<Call<u64>>,
-) -> Result<Vec<Answer<u64>>, Vec<Call<u64>>>
+) -> Result<Vec<Reply<u64>>, Vec<Call<u64>>>
     requires { All IsPostable calls.items }
     ensures once { IfOk result (λ answers. AreTakenOnce mailbox.old mailbox.new calls.items answers.items) }
     ensures addressee { IfOk result (λ answers. AreForAddressee mailbox.old calls.items answers.items) }
@@ -63,7 +63,7 @@ fn is_answered(
     alloc: Global,
     mailbox: &mut Mailbox<u64>,
     calls: Vec<Call<u64>>,
-    expected: &[Answer<u64>],
+    expected: &[Reply<u64>],
 ) -> bool
     requires { All IsPostable calls.items }
 {
@@ -79,7 +79,7 @@ fn gives_answers(
     me: u16,
     ranks: u16,
     calls: Option<Vec<Call<u64>>>,
-    expected: &[Answer<u64>],
+    expected: &[Reply<u64>],
 ) -> Option<bool>
     requires me { me < ranks }
     requires postable { IfSome calls (λ calls. All IsPostable calls.items) }
@@ -114,19 +114,19 @@ fn calls_of_one(alloc: Global) -> Option<Vec<Call<u64>>>
 }
 
 /// The expected answers.
-const ANSWERS_TO_ONE: &[Answer<u64>] = &[
-    Answer::Posted(0),
-    Answer::Posted(1),
+const ANSWERS_TO_ONE: &[Reply<u64>] = &[
+    Reply::Posted(0),
+    Reply::Posted(1),
     refused!(Full, 12),
     took!(1, 0, 0, 10),
-    Answer::Posted(2),
-    Answer::Refused(PostRefusal::Full, None),
+    Reply::Posted(2),
+    Reply::Refused(PostRefusal::Full, None),
     took!(1, 0, 1, 11),
-    Answer::Posted(3),
+    Reply::Posted(3),
     refused!(Closed, 14),
     took!(1, 0, 2, 13),
-    Answer::Took(Taken::End),
-    Answer::Took(Taken::End),
+    Reply::Took(Taken::End),
+    Reply::Took(Taken::End),
     refused!(Closed, 15),
 ];
 
@@ -155,16 +155,16 @@ fn calls_of_two(alloc: Global) -> Option<Vec<Call<u64>>>
 }
 
 /// The expected answers of rank 2.
-const ANSWERS_TO_TWO: &[Answer<u64>] = &[
-    Answer::Posted(0),
-    Answer::Posted(0),
-    Answer::Posted(1),
+const ANSWERS_TO_TWO: &[Reply<u64>] = &[
+    Reply::Posted(0),
+    Reply::Posted(0),
+    Reply::Posted(1),
     took!(1, 2, 0, 11),
     took!(0, 2, 0, 10),
     took!(0, 2, 1, 12),
-    Answer::Took(Taken::Empty),
-    Answer::Took(Taken::Stranger),
-    Answer::Took(Taken::Stranger),
+    Reply::Took(Taken::Empty),
+    Reply::Took(Taken::Stranger),
+    Reply::Took(Taken::Stranger),
 ];
 
 #[test]
@@ -235,14 +235,10 @@ fn three_calls(alloc: Global) -> Option<Vec<Call<u64>>>
 }
 
 /// The expected answers.
-const ANSWERS_TO_THREE: &[Answer<u64>] = &[
-    Answer::Posted(0),
-    Answer::Posted(0),
-    took!(2, 0, 0, 20),
-];
+const ANSWERS_TO_THREE: &[Reply<u64>] = &[Reply::Posted(0), Reply::Posted(0), took!(2, 0, 0, 20)];
 
 /// Whether these are they.
-fn are_three(answers: &[Answer<u64>]) -> bool {
+fn are_three(answers: &[Reply<u64>]) -> bool {
     answers == ANSWERS_TO_THREE
 }
 

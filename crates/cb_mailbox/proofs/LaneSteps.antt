@@ -11,7 +11,7 @@ use Rattle.cb_letters.specs.Letters.{is_close, mark_tag}
 use Rattle.cb_letters.specs.Lane.{Lane, IsAddressed, refusal, append, after_take, posted, take_answer, answer_at}
 use Rattle.cb_mailbox.specs.declared.calls.Call.{Call}
 use Rattle.cb_mailbox.specs.declared.calls.Call.TheVariants.{Post, Take, Close}
-use Rattle.cb_mailbox.specs.declared.calls.Answer.TheVariants.{Took}
+use Rattle.cb_mailbox.specs.declared.calls.Reply.TheVariants.{Took}
 use Rattle.cb_mailbox.specs.Inbox.{Inbox, is_stranger, lane_from, with_lane, post_refusal, next_letter}
 use Rattle.cb_mailbox.specs.Run.{answer, after, after_post, post_answer}
 use Rattle.cb_mailbox.specs.Exchanges.{when, accepted_by, taken_by, without_marks}

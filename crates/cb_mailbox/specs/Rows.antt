@@ -9,8 +9,8 @@ use Rattle.cb_letters.specs.declared.PostRefusal.TheVariants as Refusal
 use Rattle.cb_letters.specs.Letters.{mark_tag}
 use Rattle.cb_mailbox.specs.declared.calls.Call.{Call}
 use Rattle.cb_mailbox.specs.declared.calls.Call.TheVariants.{Post, Take, Close}
-use Rattle.cb_mailbox.specs.declared.calls.Answer.{Answer}
-use Rattle.cb_mailbox.specs.declared.calls.Answer.TheVariants.{Posted, Refused, Took}
+use Rattle.cb_mailbox.specs.declared.calls.Reply.{Reply}
+use Rattle.cb_mailbox.specs.declared.calls.Reply.TheVariants.{Posted, Refused, Took}
 use Rattle.cb_mailbox.specs.Exchanges.{accepted_on, taken_on, without_marks}
 
 abbrev seven : Tag
@@ -25,7 +25,7 @@ mark = record { from = 1; to = 0; number = 1; tag = mark_tag; body = Body.Close 
 abbrev calls : List (Call ℕ)
 calls = Post 1 seven (Body.Lost 5) ∷ Close 1 ∷ Post 1 seven (Body.Lost 6) ∷ Take 1 ∷ Take 1 ∷ Take 1 ∷ []
 
-abbrev answers : List (Answer ℕ)
+abbrev answers : List (Reply ℕ)
 answers = Posted 0 ∷ Posted 1 ∷ Refused Refusal.Closed (Some (Body.Lost 6)) ∷ Took (Taken.Letter first) ∷ Took Taken.End ∷ Took Taken.End ∷ []
 
 -- the post and the close were accepted

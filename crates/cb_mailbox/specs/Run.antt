@@ -9,8 +9,8 @@ use Rattle.cb_letters.specs.Events.{Event, Sent, Got, posts_on, takes_on}
 use Rattle.cb_letters.specs.Lane.{new_lane, posted, append, take_answer}
 use Rattle.cb_mailbox.specs.declared.calls.Call.{Call}
 use Rattle.cb_mailbox.specs.declared.calls.Call.TheVariants.{Post, Take, Close}
-use Rattle.cb_mailbox.specs.declared.calls.Answer.{Answer}
-use Rattle.cb_mailbox.specs.declared.calls.Answer.TheVariants.{Posted, Refused, Took}
+use Rattle.cb_mailbox.specs.declared.calls.Reply.{Reply}
+use Rattle.cb_mailbox.specs.declared.calls.Reply.TheVariants.{Posted, Refused, Took}
 use Rattle.cb_mailbox.specs.Inbox.{Inbox, is_stranger, lane_from, with_lane, with_take, post_refusal, next_letter}
 
 module _ {P : Type 0} where
@@ -20,7 +20,7 @@ module _ {P : Type 0} where
   IsPostable (Take from) = Unit {0}
   IsPostable (Close from) = Unit {0}
 
-  abbrev pub post_answer : Option PostRefusal → ℕ → Option (Body P) → Answer P
+  abbrev pub post_answer : Option PostRefusal → ℕ → Option (Body P) → Reply P
   post_answer None number body = Posted number
   post_answer (Some refusal) number body = Refused refusal body
 
@@ -29,7 +29,7 @@ module _ {P : Type 0} where
   after_post (Some refusal) box x = box
 
   -- what a call answers
-  abbrev pub answer : Inbox P → Call P → Answer P
+  abbrev pub answer : Inbox P → Call P → Reply P
   answer box (Post from tag body) = post_answer (post_refusal box from) (posted (lane_from box from)) (Some body)
   answer box (Close from) = post_answer (post_refusal box from) (posted (lane_from box from)) None
   answer box (Take from) = Took (if is_stranger box from then Taken.Stranger else take_answer (lane_from box from))
@@ -41,7 +41,7 @@ module _ {P : Type 0} where
   after box (Take from) = if is_stranger box from then box else with_take box from
 
   -- the answers to a list of calls
-  abbrev pub answers_to : Inbox P → List (Call P) → List (Answer P)
+  abbrev pub answers_to : Inbox P → List (Call P) → List (Reply P)
   answers_to box [] = []
   answers_to box (c ∷ cs) = answer box c ∷ answers_to (after box c) cs
 

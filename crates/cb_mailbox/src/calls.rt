@@ -18,7 +18,7 @@ pub enum Call<P> {
 
 /// The answer to a call of a mailbox.
 #[derive(PartialEq, Eq, Drop)]
-pub enum Answer<P> {
+pub enum Reply<P> {
     /// A post or a close was accepted, and its letter has this number.
     Posted(u64),
     /// A post or a close was refused. A post gets its body back.
@@ -33,7 +33,7 @@ impl<P: Drop> Mailbox<P> {
         &mut self,
         alloc: Global,
         calls: Vec<Call<P>>,
-    ) -> Result<Vec<Answer<P>>, (Vec<Call<P>>, AllocError)>
+    ) -> Result<Vec<Reply<P>>, (Vec<Call<P>>, AllocError)>
         requires { All IsPostable calls.items }
         ensures answers { IfOk result (λ answers. answers.items ≡ answers_to self.old calls.items) }
         ensures after { OnOk result (self.new ≡ after_all self.old calls.items) }
@@ -56,7 +56,7 @@ impl<P: Drop> Mailbox<P> {
     }
 
     /// Makes the calls one after the other, and puts their answers into the list, which has room for them.
-    fn make(&mut self, calls: Vec<Call<P>>, answers: &mut Vec<Answer<P>>)
+    fn make(&mut self, calls: Vec<Call<P>>, answers: &mut Vec<Reply<P>>)
         requires postable { All IsPostable calls.items }
         requires empty { answers.old.items ≡ [] }
         requires room { length calls.items ≤ vec_capacity answers.old }
@@ -69,20 +69,20 @@ impl<P: Drop> Mailbox<P> {
         }
     }
 
-    fn call(&mut self, call: Call<P>) -> Answer<P>
+    fn call(&mut self, call: Call<P>) -> Reply<P>
         requires { IsPostable call }
         ensures answer { result ≡ answer self.old call }
         ensures after { self.new ≡ after self.old call }
     {
         match call {
             Call::Post { from, tag, body } => match self.post(from, tag, body) {
-                Ok(number) => Answer::Posted(number),
-                Err((refusal, body)) => Answer::Refused(refusal, Some(body)),
+                Ok(number) => Reply::Posted(number),
+                Err((refusal, body)) => Reply::Refused(refusal, Some(body)),
             },
-            Call::Take { from } => Answer::Took(self.take(from)),
+            Call::Take { from } => Reply::Took(self.take(from)),
             Call::Close { from } => match self.close(from) {
-                Ok(number) => Answer::Posted(number),
-                Err(refusal) => Answer::Refused(refusal, None),
+                Ok(number) => Reply::Posted(number),
+                Err(refusal) => Reply::Refused(refusal, None),
             },
         }
     }

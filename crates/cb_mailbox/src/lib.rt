@@ -23,7 +23,7 @@ ghost use Rattle.cb_letters.specs.Lane.{new_lane, posted, IsDrained, HasRoom, Is
 ghost use Rattle.cb_letters.specs.declared.Letter.{Letter};
 ghost use Rattle.cb_mailbox.specs.Inbox.{is_stranger, lane_from, with_take, post_refusal, AcceptsFrom};
 
-pub use calls::{Answer, Call};
+pub use calls::{Call, Reply};
 use cb_letters::{Body, Capacity, PostRefusal, Tag, Taken};
 use queue::Queue;
 use std::alloc::{AllocError, Global};

@@ -1,6 +1,4 @@
 //! The numbers by which C says what it wants, and hears what was done.
-use cb_matrix::Test;
-use cb_operations::Operation;
 use cb_rank::Want;
 use cb_rank_process::ProcessFault;
 
@@ -37,23 +35,5 @@ pub(crate) fn number_of(want: Want) -> (u32, u16) {
         Want::Work => (3, 0),
         Want::Shut(to) => (4, to),
         Want::End(from) => (5, from),
-    }
-}
-
-/// The operation of a number. `value` is that with which values are compared, if they are.
-pub(crate) fn operation_of(number: u32, value: u64) -> Option<Operation> {
-    match number {
-        0 => Some(Operation::Multiply),
-        1 => Some(Operation::MultiplyMasked),
-        2 => Some(Operation::MultiplyVector),
-        3 => Some(Operation::Transpose),
-        4 => Some(Operation::RowSums),
-        5 => Some(Operation::ColumnSums),
-        6 => Some(Operation::Add),
-        7 => Some(Operation::Times),
-        8 => Some(Operation::Prune(Test::Below(value))),
-        9 => Some(Operation::Prune(Test::Above(value))),
-        10 => Some(Operation::Prune(Test::Equal(value))),
-        _ => None,
     }
 }

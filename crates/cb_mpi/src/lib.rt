@@ -1,6 +1,6 @@
 //! One process of a run by several, for a program that carries letters between them, as by MPI: `mpi/cbgrid_mpi.c`.
 //!
-//! C holds a process and messages by pointers ([`Owned`], [`OwnedMessage`]). A call that changes a process takes its pointer, and
+//! C holds a process and messages by pointers ([`OwnedProcess`], [`OwnedMessage`]). A call that changes a process takes its pointer, and
 //! gives it back in `out`. Each call checks whether its turn has come, and if not returns a code and changes nothing. So C may make
 //! calls in any order: a wrong one is refused, and breaks no promise. No call waits, starts a thread or takes a lock.
 //!
@@ -20,13 +20,14 @@ mod process_handles;
 
 use cb_lists::Columns;
 use cb_messages::Head;
+use cb_operations::Operation;
 use cb_rank_process::{AnyProcess, LineCounts, Outgoing, ProcessFault, opening_length, text_fault};
 use cb_semirings::{NAMES, SemiringName};
-use codes::{DONE, code, code_of, number_of, operation_of};
+use codes::{DONE, code, code_of, number_of};
 use message_handles::{borrowed_message, hand_message_out, take_message_back};
 pub use message_handles::{LentMessage, OwnedMessage};
 use process_handles::{borrowed, hand_out, take_back};
-pub use process_handles::{Lent, Owned};
+pub use process_handles::{LentProcess, OwnedProcess};
 use std::alloc::Global;
 
 /// Some bytes.
@@ -65,7 +66,7 @@ pub extern "C" fn cbgrid_process_open(
     semiring: u32,
     side: u32,
     me: u32,
-    out: &mut Owned,
+    out: &mut OwnedProcess,
 ) -> u32 {
     let process = match opened(alloc, semiring, side, me) {
         Ok(process) => process,
@@ -82,7 +83,7 @@ pub extern "C" fn cbgrid_process_open(
 
 /// Frees what a process holds. The caller then frees the memory at the pointer.
 #[unsafe(no_mangle)]
-pub extern "C" fn cbgrid_process_clear(process: Owned, out: &mut Owned)
+pub extern "C" fn cbgrid_process_clear(process: OwnedProcess, out: &mut OwnedProcess)
     requires { IsSome process.kept }
 {
     let process = take_back(process);
@@ -139,11 +140,11 @@ pub extern "C" fn cbgrid_text_fault(
 #[unsafe(no_mangle)]
 pub extern "C" fn cbgrid_process_read(
     alloc: Global,
-    process: Owned,
+    process: OwnedProcess,
     opening: &[u8],
     piece: &[u8],
     counts: &mut LineCounts,
-    out: &mut Owned,
+    out: &mut OwnedProcess,
 ) -> u32
     requires { IsSome process.kept }
 {
@@ -164,15 +165,15 @@ pub extern "C" fn cbgrid_process_read(
 #[unsafe(no_mangle)]
 pub extern "C" fn cbgrid_process_operate(
     alloc: Global,
-    process: Owned,
+    process: OwnedProcess,
     operation: u32,
     value: u64,
-    out: &mut Owned,
+    out: &mut OwnedProcess,
 ) -> u32
     requires { IsSome process.kept }
 {
     let process = take_back(process);
-    let begun = match operation_of(operation, value) {
+    let begun = match Operation::numbered(operation, value) {
         Some(operation) => process.operate(alloc, operation),
         None => Err(ProcessFault::Absent),
     };
@@ -184,9 +185,9 @@ pub extern "C" fn cbgrid_process_operate(
 #[unsafe(no_mangle)]
 pub extern "C" fn cbgrid_process_gather(
     alloc: Global,
-    process: Owned,
+    process: OwnedProcess,
     register: u32,
-    out: &mut Owned,
+    out: &mut OwnedProcess,
 ) -> u32
     requires { IsSome process.kept }
 {
@@ -200,10 +201,10 @@ pub extern "C" fn cbgrid_process_gather(
 #[unsafe(no_mangle)]
 pub extern "C" fn cbgrid_process_copy(
     alloc: Global,
-    process: Owned,
+    process: OwnedProcess,
     from: u32,
     to: u32,
-    out: &mut Owned,
+    out: &mut OwnedProcess,
 ) -> u32
     requires { IsSome process.kept }
 {
@@ -218,9 +219,9 @@ pub extern "C" fn cbgrid_process_copy(
 #[unsafe(no_mangle)]
 pub extern "C" fn cbgrid_process_weigh(
     alloc: Global,
-    process: Owned,
+    process: OwnedProcess,
     register: u32,
-    out: &mut Owned,
+    out: &mut OwnedProcess,
 ) -> u32
     requires { IsSome process.kept }
 {
@@ -235,12 +236,12 @@ pub extern "C" fn cbgrid_process_weigh(
 #[unsafe(no_mangle)]
 pub extern "C" fn cbgrid_process_begin_search(
     alloc: Global,
-    process: Owned,
+    process: OwnedProcess,
     graph: u32,
     source: u32,
     known: u32,
     fell: u32,
-    out: &mut Owned,
+    out: &mut OwnedProcess,
 ) -> u32
     requires { IsSome process.kept }
 {
@@ -254,10 +255,10 @@ pub extern "C" fn cbgrid_process_begin_search(
 #[unsafe(no_mangle)]
 pub extern "C" fn cbgrid_process_settle(
     alloc: Global,
-    process: Owned,
+    process: OwnedProcess,
     known: u32,
     reached: u32,
-    out: &mut Owned,
+    out: &mut OwnedProcess,
 ) -> u32
     requires { IsSome process.kept }
 {
@@ -271,7 +272,7 @@ pub extern "C" fn cbgrid_process_settle(
 #[unsafe(no_mangle)]
 pub extern "C" fn cbgrid_process_vertex_lines(
     alloc: Global,
-    process: Lent,
+    process: LentProcess,
     register: u32,
     lines: &mut Bytes,
 ) -> u32 {
@@ -287,7 +288,7 @@ pub extern "C" fn cbgrid_process_vertex_lines(
 /// What the process wants: 0 nothing more, 1 to post, 2 to take, 3 to work, 4 to shut a lane, 5 to take a close mark. `other` gets
 /// the rank at the lane's other end.
 #[unsafe(no_mangle)]
-pub extern "C" fn cbgrid_process_want(process: Lent, other: &mut u32) -> u32 {
+pub extern "C" fn cbgrid_process_want(process: LentProcess, other: &mut u32) -> u32 {
     let (number, rank) = number_of(borrowed(process).want());
     *other = u32::from(rank);
     number
@@ -297,9 +298,9 @@ pub extern "C" fn cbgrid_process_want(process: Lent, other: &mut u32) -> u32 {
 #[unsafe(no_mangle)]
 pub extern "C" fn cbgrid_process_post(
     alloc: Global,
-    process: Owned,
+    process: OwnedProcess,
     message: &mut OwnedMessage,
-    out: &mut Owned,
+    out: &mut OwnedProcess,
 ) -> u32
     requires { IsSome process.kept }
 {
@@ -350,10 +351,10 @@ pub extern "C" fn cbgrid_message_clear(message: OwnedMessage, out: &mut OwnedMes
 #[unsafe(no_mangle)]
 pub extern "C" fn cbgrid_process_take(
     alloc: Global,
-    process: Owned,
+    process: OwnedProcess,
     head: &Head,
     lists: &Columns,
-    out: &mut Owned,
+    out: &mut OwnedProcess,
 ) -> u32
     requires { IsSome process.kept }
 {
@@ -365,7 +366,7 @@ pub extern "C" fn cbgrid_process_take(
 
 /// Does a Work.
 #[unsafe(no_mangle)]
-pub extern "C" fn cbgrid_process_work(process: Owned, out: &mut Owned) -> u32
+pub extern "C" fn cbgrid_process_work(process: OwnedProcess, out: &mut OwnedProcess) -> u32
     requires { IsSome process.kept }
 {
     let process = take_back(process);
@@ -377,10 +378,10 @@ pub extern "C" fn cbgrid_process_work(process: Owned, out: &mut Owned) -> u32
 /// Ends the plan, and keeps the block that it leaves in a register. If the block was lost, `origin` gets the rank.
 #[unsafe(no_mangle)]
 pub extern "C" fn cbgrid_process_end(
-    process: Owned,
+    process: OwnedProcess,
     register: u32,
     origin: &mut u32,
-    out: &mut Owned,
+    out: &mut OwnedProcess,
 ) -> u32
     requires { IsSome process.kept }
 {
@@ -395,7 +396,7 @@ pub extern "C" fn cbgrid_process_end(
 
 /// How many entries the process has of the matrix in a register.
 #[unsafe(no_mangle)]
-pub extern "C" fn cbgrid_process_count(process: Lent, register: u32, out: &mut u64) -> u32 {
+pub extern "C" fn cbgrid_process_count(process: LentProcess, register: u32, out: &mut u64) -> u32 {
     match borrowed(process).entry_count(register) {
         Ok(count) => {
             *out = count;
@@ -409,7 +410,7 @@ pub extern "C" fn cbgrid_process_count(process: Lent, register: u32, out: &mut u
 #[unsafe(no_mangle)]
 pub extern "C" fn cbgrid_process_head(
     alloc: Global,
-    process: Lent,
+    process: LentProcess,
     register: u32,
     entries: u64,
     out: &mut Bytes,
@@ -427,10 +428,10 @@ pub extern "C" fn cbgrid_process_head(
 #[unsafe(no_mangle)]
 pub extern "C" fn cbgrid_process_lines(
     alloc: Global,
-    process: Owned,
+    process: OwnedProcess,
     register: u32,
     lines: &mut Bytes,
-    out: &mut Owned,
+    out: &mut OwnedProcess,
 ) -> u32
     requires { IsSome process.kept }
 {

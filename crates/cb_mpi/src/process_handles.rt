@@ -12,12 +12,12 @@ use std::marker::Model;
 /// A process that C owns, or a place for one.
 #[repr(C)]
 #[derive(Drop)]
-pub struct Owned {
+pub struct OwnedProcess {
     at: *mut u8,
     pub ghost kept: { Option (MutBor ProcessValue) },
 }
 
-impl Model for Owned {
+impl Model for OwnedProcess {
     ghost use Rattle.cb_mpi.specs.ProcessHandles.{owned_at};
 
     ghost also_owns = { λ h. owned_at h.at h.kept };
@@ -26,28 +26,28 @@ impl Model for Owned {
 /// A process that C passes to a call: nobody changes or frees it while the call runs.
 #[repr(C)]
 #[derive(Drop)]
-pub struct Lent {
+pub struct LentProcess {
     at: *const u8,
     pub ghost kept: { Bor ProcessValue },
 }
 
-impl Model for Lent {
+impl Model for LentProcess {
     ghost use Rattle.cb_mpi.specs.ProcessHandles.{lent_at};
 
     ghost also_owns = { λ h. lent_at h.at h.kept };
 }
 
 /// Hands a process to C.
-pub(crate) fn hand_out(kept: &'static mut AnyProcess) -> Owned
+pub(crate) fn hand_out(kept: &'static mut AnyProcess) -> OwnedProcess
     ensures { result.kept ≡ Some kept.entry }
 {
-    Owned {
+    OwnedProcess {
         at: kept as *mut AnyProcess as *mut u8,
     }
 }
 
 /// Takes a process back from C.
-pub(crate) fn take_back(owned: Owned) -> &'static mut AnyProcess
+pub(crate) fn take_back(owned: OwnedProcess) -> &'static mut AnyProcess
     requires { IsSome owned.kept }
     ensures { owned.kept ≡ Some result }
 {
@@ -55,7 +55,7 @@ pub(crate) fn take_back(owned: Owned) -> &'static mut AnyProcess
 }
 
 /// The process that C passes.
-pub(crate) fn borrowed(lent: Lent) -> &'static AnyProcess
+pub(crate) fn borrowed(lent: LentProcess) -> &'static AnyProcess
     ensures { result ≡ lent.kept }
 {
     unsafe { &*(lent.at as *const AnyProcess) }

@@ -43,9 +43,9 @@ pub record HasSource (d : Extent) (source : ℕ) : Type 0 where
 
 -- the shape isn't square, or, if it is, the source isn't one of its vertices
 abbrev pub IsGraphRefusal : Extent → ℕ → Refusal → Type 0
-IsGraphRefusal d source refusal_is.Shapes = ⊥
 IsGraphRefusal d source refusal_is.NotSquare = d.rows ≢ d.cols
 IsGraphRefusal d source refusal_is.Source = (d.rows ≡ d.cols) × (d.rows ≤ source)
+IsGraphRefusal d source _ = ⊥
 
 -- a matrix of some shape is a graph for a task: it is square and has the source, if any; degrees take any matrix
 abbrev pub Suits : GraphTask → Extent → Type 0

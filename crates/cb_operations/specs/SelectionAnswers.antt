@@ -7,8 +7,8 @@ use Rattle.cb_matrix.specs.Sparse.{Sparse, Extent}
 use Rattle.cb_matrix.specs.Operations.{cut}
 use Rattle.cb_operations.specs.declared.selections.Selection.{Selection}
 use Rattle.cb_operations.specs.declared.selections.Selection.TheVariants.{Select, Apply, Diagonal, DiagonalMatrix, Power, Part, Kronecker, Assign, Exclude}
-use Rattle.cb_operations.specs.declared.refusals.SelectionRefusal.{SelectionRefusal}
-use Rattle.cb_operations.specs.declared.refusals.SelectionRefusal.TheVariants.{Shapes, NoValue, NotColumn, NotSquare, TooLarge, Place}
+use Rattle.cb_operations.specs.declared.refusals.Refusal.{Refusal}
+use Rattle.cb_operations.specs.declared.refusals.Refusal.TheVariants.{Shapes, NoValue, NotColumn, NotSquare, TooLarge, Place}
 use Rattle.cb_operations.specs.Functions.{TakesValues}
 use Rattle.cb_operations.specs.OperationAnswers.{extent_at, matrix_at}
 use Rattle.cb_operations.specs.Selected.{selected, applied, diagonal_of, diagonal_matrix, power, kronecker, assigned, excluded}
@@ -50,7 +50,7 @@ Suits (Assign corner) s ds = FitsAt corner (extent_at ds 1) (extent_at ds 0)
 Suits Exclude s ds = extent_at ds 1 ≡ extent_at ds 0
 
 -- why a selection is refused if it can't be made; one from a region and a diagonal always can be
-abbrev pub refusal_of : Selection → SelectionRefusal
+abbrev pub refusal_of : Selection → Refusal
 refusal_of (Select region) = Shapes
 refusal_of (Apply function) = NoValue
 refusal_of Diagonal = Shapes
@@ -62,7 +62,7 @@ refusal_of (Assign corner) = Place
 refusal_of Exclude = Shapes
 
 -- a selection from matrices of these shapes is refused for this reason
-abbrev pub IsRefusal : Selection → Arithmetic → List Extent → SelectionRefusal → Type 0
+abbrev pub IsRefusal : Selection → Arithmetic → List Extent → Refusal → Type 0
 IsRefusal selection s ds refusal = (refusal ≡ refusal_of selection) × ¬ Suits selection s ds
 
 -- the result for these matrices, over a semiring

@@ -1,24 +1,16 @@
-//! Why an operation on matrices or graphs, or a selection, is refused.
+//! Why an operation on matrices or graphs, or a selection, has no result.
 ghost use Rattle.std.specs.Prelude.{◌≡◌};
-ghost use Rattle.cb_operations.specs.RefusalTexts.{refusal_text, selection_refusal_text};
+ghost use Rattle.cb_operations.specs.RefusalTexts.{refusal_text};
 
+use std::alloc::AllocError;
 use std::fmt;
+use thiserror::Error;
 
-/// Why an operation is refused, whatever computes it. The reasons are checked in this order.
+/// Why an operation, a selection or a task on a graph is refused, whatever computes it. Each has a definition that says which of
+/// them it is refused for.
 #[derive(Clone, Copy, Debug, PartialEq, Eq)]
 pub enum Refusal {
     /// The shapes of the operands don't agree.
-    Shapes,
-    /// The matrix of a graph isn't square.
-    NotSquare,
-    /// The source isn't a vertex of the graph.
-    Source,
-}
-
-/// Why a selection is refused, whatever makes it.
-#[derive(Clone, Copy, Debug, PartialEq, Eq)]
-pub enum SelectionRefusal {
-    /// The two matrices must have one shape.
     Shapes,
     /// A number that the function takes isn't a value of the semiring.
     NoValue,
@@ -26,6 +18,8 @@ pub enum SelectionRefusal {
     NotColumn,
     /// The matrix must be square.
     NotSquare,
+    /// The source isn't a vertex of the graph.
+    Source,
     /// The Kronecker product has more rows or columns than a matrix may have.
     TooLarge,
     /// The part ends beyond the matrix, or a range of it descends.
@@ -43,26 +37,14 @@ impl Refusal {
     {
         match self {
             Refusal::Shapes => "shapes don't agree",
+            Refusal::NoValue => "no value of the semiring",
+            Refusal::NotColumn => "matrix not a column",
             Refusal::NotSquare => "matrix not square",
             Refusal::Source => "no such source",
-        }
-    }
-}
-
-impl SelectionRefusal {
-    /// Returns the reason in words.
-    pub fn text(&self) -> &'static str
-        ensures { result.now ≡ selection_refusal_text self.now }
-    {
-        match self {
-            SelectionRefusal::Shapes => "shapes don't agree",
-            SelectionRefusal::NoValue => "no value of the semiring",
-            SelectionRefusal::NotColumn => "matrix not a column",
-            SelectionRefusal::NotSquare => "matrix not square",
-            SelectionRefusal::TooLarge => "product too large",
-            SelectionRefusal::Place => "part ends beyond the matrix",
-            SelectionRefusal::NoRow => "no such row",
-            SelectionRefusal::NoColumn => "no such column",
+            Refusal::TooLarge => "product too large",
+            Refusal::Place => "part ends beyond the matrix",
+            Refusal::NoRow => "no such row",
+            Refusal::NoColumn => "no such column",
         }
     }
 }
@@ -73,12 +55,35 @@ impl fmt::Display for Refusal {
     }
 }
 
-impl fmt::Display for SelectionRefusal {
-    fn fmt<W: fmt::Write>(&self, f: &mut fmt::Formatter<W>) -> fmt::Result {
-        f.write_str(self.text())
+impl std::error::Error for Refusal {}
+
+/// Why blocks have no result on one thread. The reasons are checked in this order.
+#[derive(Clone, Copy, Debug, PartialEq, Eq, Error)]
+pub enum ComputeFault {
+    /// What is asked for is refused, whatever would compute it.
+    #[error("{0}")]
+    Refused(Refusal),
+    /// Memory was refused.
+    #[error("out of memory")]
+    Memory,
+}
+
+impl From<AllocError> for ComputeFault {
+    ghost use Rattle.cb_operations.specs.declared.refusals.ComputeFault.TheVariants.{Memory};
+
+    ghost from_gives = { λ _ fault. fault ≡ Memory };
+
+    fn from(_error: AllocError) -> ComputeFault {
+        ComputeFault::Memory
     }
 }
 
-impl std::error::Error for Refusal {}
+impl From<Refusal> for ComputeFault {
+    ghost use Rattle.cb_operations.specs.declared.refusals.ComputeFault.TheVariants.{Refused};
 
-impl std::error::Error for SelectionRefusal {}
+    ghost from_gives = { λ refusal fault. fault ≡ Refused refusal };
+
+    fn from(refusal: Refusal) -> ComputeFault {
+        ComputeFault::Refused(refusal)
+    }
+}

@@ -1,11 +1,11 @@
 //! Selections, and the matrices from which they can be made.
-ghost use Rattle.std.specs.Prelude.{◌≡◌, ◌≢◌, ◌↔◌, ◌≤◌, ◌*◌, IsTrue, IfErr, OnOk, length};
+ghost use Rattle.std.specs.Prelude.{◌≡◌, ◌≢◌, ◌↔◌, ◌≤◌, ◌*◌, IsTrue, length};
 ghost use Rattle.cb_matrix.specs.declared.TheConstants.{LIMIT};
 ghost use Rattle.cb_operations.specs.Functions.{TakesValues};
-ghost use Rattle.cb_operations.specs.SelectionAnswers.{operand_count_of, FitsAt, FitsLimit, IsPartOf, IsRefusal, Suits, refusal_of};
+ghost use Rattle.cb_operations.specs.SelectionAnswers.{operand_count_of, FitsAt, FitsLimit, IsPartOf, Suits, refusal_of};
 
 use crate::functions::Function;
-use crate::refusals::SelectionRefusal;
+use crate::refusals::Refusal;
 use crate::regions::Region;
 use cb_matrix::{LIMIT, Shape};
 use cb_semirings::Semiring;
@@ -56,19 +56,19 @@ impl Selection {
     }
 
     /// Why it is refused, if it is.
-    pub fn refusal(self) -> SelectionRefusal
+    pub fn refusal(self) -> Refusal
         ensures { result ≡ refusal_of self }
     {
         match self {
-            Selection::Select(_region) => SelectionRefusal::Shapes,
-            Selection::Apply(_function) => SelectionRefusal::NoValue,
-            Selection::Diagonal => SelectionRefusal::Shapes,
-            Selection::DiagonalMatrix => SelectionRefusal::NotColumn,
-            Selection::Power(_factors) => SelectionRefusal::NotSquare,
-            Selection::Part(_rows, _cols) => SelectionRefusal::Place,
-            Selection::Kronecker => SelectionRefusal::TooLarge,
-            Selection::Assign(_corner) => SelectionRefusal::Place,
-            Selection::Exclude => SelectionRefusal::Shapes,
+            Selection::Select(_region) => Refusal::Shapes,
+            Selection::Apply(_function) => Refusal::NoValue,
+            Selection::Diagonal => Refusal::Shapes,
+            Selection::DiagonalMatrix => Refusal::NotColumn,
+            Selection::Power(_factors) => Refusal::NotSquare,
+            Selection::Part(_rows, _cols) => Refusal::Place,
+            Selection::Kronecker => Refusal::TooLarge,
+            Selection::Assign(_corner) => Refusal::Place,
+            Selection::Exclude => Refusal::Shapes,
         }
     }
 
@@ -87,19 +87,6 @@ impl Selection {
             Selection::Kronecker => fits_limit(shapes[0], shapes[1]),
             Selection::Assign(corner) => fits_at(corner, shapes[1], shapes[0]),
             Selection::Exclude => shapes[1] == shapes[0],
-        }
-    }
-
-    /// Refuses shapes of matrices from which it can't be made over a semiring.
-    pub fn check<S: Semiring>(self, shapes: &[Shape]) -> Result<(), SelectionRefusal>
-        requires { length shapes.now ≡ operand_count_of self }
-        ensures ok { OnOk result (Suits self S.arithmetic shapes.now) }
-        ensures refused { IfErr result (IsRefusal self S.arithmetic shapes.now) }
-    {
-        if self.suits::<S>(shapes) {
-            Ok(())
-        } else {
-            Err(self.refusal())
         }
     }
 }

@@ -1,4 +1,2 @@
--- For this crate alone. AnswerMatrices: what operations make of matrices are matrices. ResultColumns: how many columns their
--- results have.
-mod AnswerMatrices
+-- For this crate alone. ResultColumns: how many columns results have that threads share.
 mod ResultColumns

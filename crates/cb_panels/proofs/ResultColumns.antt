@@ -1,59 +1,57 @@
--- How many columns the results of operations and selections have that threads share, and where ranges of all of them end.
-use Rattle.std.proofs.Common.{◌≡◌, ℕ, List, [], ◌∷◌, length, refl, sym, subst, arith}
+-- How many columns the results have that threads share, and where ranges of all of them end.
+use Rattle.std.proofs.Common.{◌≡◌, ℕ, ◌<◌, ◌≤◌, List, [], ◌∷◌, length, get_or, refl, sym, ap, subst, arith}
+use Rattle.std.specs.Borrow.{Bor}
 use Rattle.cb_semirings.specs.Arithmetic.{Arithmetic}
 use Rattle.cb_matrix.specs.Sparse.{Sparse}
-use Rattle.cb_operations.specs.declared.operations.Operation.{Operation}
-use Rattle.cb_operations.specs.declared.operations.Operation.TheVariants.{Multiply, MultiplyMasked, MultiplyVector, Transpose, RowSums, ColumnSums, Add, Times, Prune}
-use Rattle.cb_operations.specs.OperationAnswers.{Agree, answer_of, operand_count_of, shapes_in}
-use Rattle.cb_operations.specs.declared.selections.Selection.{Selection}
-use Rattle.cb_operations.specs.declared.selections.Selection.TheVariants as selection_is
-use Rattle.cb_operations.specs.SelectionAnswers as selections
-use Rattle.cb_shares.specs.ByColumns.{IsByColumns, IsSelectionByColumns}
+use Rattle.cb_operations.specs.declared.operations.Operation.TheVariants.{MultiplyMasked, ColumnSums, Add, Times, Prune}
+use Rattle.cb_operations.specs.declared.selections.Selection.TheVariants.{Select, Apply, Exclude}
+use Rattle.cb_operations.specs.declared.computations.Computation.{Computation}
+use Rattle.cb_operations.specs.declared.computations.Computation.TheVariants.{Operation, Selection, MultiplyOutside}
+use Rattle.cb_operations.specs.Computations.{answer_of, operand_count_of}
+use Rattle.cb_operations.specs.OperationAnswers.{matrix_at}
+use Rattle.cb_operations.specs.Operands.{lent_in}
+use Rattle.cb_shares.specs.ByColumns.{IsByColumns}
 use Rattle.cb_shares.specs.Shares.{AreEnds}
 
--- the shape of a single operand agrees
-pub of_one_agree : (operation : Operation) (a : Sparse) → operand_count_of operation ≡ 1 → Agree operation (shapes_in (a ∷ []))
-of_one_agree Transpose a count = tt
-of_one_agree RowSums a count = tt
-of_one_agree ColumnSums a count = tt
-of_one_agree (Prune test) a count = tt
-of_one_agree _ a count = absurd (omega (arith, count))
+-- by columns there are as many as the first operand has
+pub cols_by_columns : (s : Arithmetic) (computation : Computation) (ms : List Sparse) → IsByColumns computation → (answer_of computation s ms).shape.cols ≡ (matrix_at ms 0).shape.cols
+cols_by_columns s (Operation ColumnSums) ms by = refl
+cols_by_columns s (Operation Add) ms by = refl
+cols_by_columns s (Operation Times) ms by = refl
+cols_by_columns s (Operation (Prune test)) ms by = refl
+cols_by_columns s (Selection (Select region)) ms by = refl
+cols_by_columns s (Selection (Apply function)) ms by = refl
+cols_by_columns s (Selection Exclude) ms by = refl
+cols_by_columns s _ ms by = absurd by
 
-module _ (s : Arithmetic) where
-  -- by columns there are as many as the operands have
-  pub of_one_cols : (operation : Operation) (a : Sparse) → operand_count_of operation ≡ 1 → IsByColumns operation → (answer_of operation s (a ∷ [])).shape.cols ≡ a.shape.cols
-  of_one_cols ColumnSums a count by = refl
-  of_one_cols (Prune test) a count by = refl
-  of_one_cols Add a count by = let c : 2 ≡ 1 = count in absurd (omega (arith, c))
-  of_one_cols Times a count by = let c : 2 ≡ 1 = count in absurd (omega (arith, c))
-  of_one_cols _ a count by = absurd by
+-- and it takes one at least
+pub some_by_columns : (computation : Computation) → IsByColumns computation → 0 < operand_count_of computation
+some_by_columns (Operation ColumnSums) by = omega arith
+some_by_columns (Operation Add) by = omega arith
+some_by_columns (Operation Times) by = omega arith
+some_by_columns (Operation (Prune test)) by = omega arith
+some_by_columns (Selection (Select region)) by = omega arith
+some_by_columns (Selection (Apply function)) by = omega arith
+some_by_columns (Selection Exclude) by = omega arith
+some_by_columns _ by = absurd by
 
-  pub of_two_cols : (operation : Operation) (a b : Sparse) → operand_count_of operation ≡ 2 → IsByColumns operation → (answer_of operation s (a ∷ b ∷ [])).shape.cols ≡ a.shape.cols
-  of_two_cols Add a b count by = refl
-  of_two_cols Times a b count by = refl
-  of_two_cols ColumnSums a b count by = let c : 1 ≡ 2 = count in absurd (omega (arith, c))
-  of_two_cols (Prune test) a b count by = let c : 1 ≡ 2 = count in absurd (omega (arith, c))
-  of_two_cols _ a b count by = absurd by
+-- the first and the second of borrowed matrices
+pub first_operand : (xs : List (Bor Sparse)) (x : Bor Sparse) → 0 < length xs → x ≡ get_or xs 0 x → x.now ≡ matrix_at (lent_in xs) 0
+first_operand [] x l is = absurd (omega (arith, l))
+first_operand (o ∷ os) x l is = ap (λ (y : Bor Sparse). y.now) is
 
-  -- a product under a mask has as many as the right factor
-  pub of_three_cols : (operation : Operation) (a b c : Sparse) → operand_count_of operation ≡ 3 → (answer_of operation s (a ∷ b ∷ c ∷ [])).shape.cols ≡ b.shape.cols
-  of_three_cols MultiplyMasked a b c count = refl
-  of_three_cols _ a b c count = absurd (omega (arith, count))
+second_operand : (xs : List (Bor Sparse)) (x : Bor Sparse) → 3 ≤ length xs → x ≡ get_or xs 1 x → x.now ≡ matrix_at (lent_in xs) 1
+second_operand [] x l is = absurd (omega (arith, l))
+second_operand (o ∷ []) x l is = absurd (omega (arith, l))
+second_operand (o ∷ p ∷ os) x l is = ap (λ (y : Bor Sparse). y.now) is
 
-  -- and selections by columns
-  pub one_selected_cols : (selection : Selection) (a : Sparse) → selections.operand_count_of selection ≡ 1 → IsSelectionByColumns selection
-      → (selections.answer_of selection s (a ∷ [])).shape.cols ≡ a.shape.cols
-  one_selected_cols (selection_is.Select region) a count by = refl
-  one_selected_cols (selection_is.Apply function) a count by = refl
-  one_selected_cols selection_is.Exclude a count by = let c : 2 ≡ 1 = count in absurd (omega (arith, c))
-  one_selected_cols _ a count by = absurd by
-
-  pub two_selected_cols : (selection : Selection) (a b : Sparse) → selections.operand_count_of selection ≡ 2 → IsSelectionByColumns selection
-      → (selections.answer_of selection s (a ∷ b ∷ [])).shape.cols ≡ a.shape.cols
-  two_selected_cols selection_is.Exclude a b count by = refl
-  two_selected_cols (selection_is.Select region) a b count by = let c : 1 ≡ 2 = count in absurd (omega (arith, c))
-  two_selected_cols (selection_is.Apply function) a b count by = let c : 1 ≡ 2 = count in absurd (omega (arith, c))
-  two_selected_cols _ a b count by = absurd by
+-- a product under a mask or outside it has as many as the right factor
+pub cols_of_three : (s : Arithmetic) (computation : Computation) (xs : List (Bor Sparse)) (b : Bor Sparse) → 3 ≤ length xs → length xs ≡ operand_count_of computation → b ≡ get_or xs 1 b
+    → (answer_of computation s (lent_in xs)).shape.cols ≡ b.now.shape.cols
+cols_of_three s (Operation MultiplyMasked) xs b l count is = ap (λ (m : Sparse). m.shape.cols) (sym (second_operand xs b l is))
+cols_of_three s MultiplyOutside xs b l count is = ap (λ (m : Sparse). m.shape.cols) (sym (second_operand xs b l is))
+cols_of_three s (Selection Exclude) xs b l count is = absurd (omega (arith, l, count))
+cols_of_three s _ xs b l count is = absurd (omega (arith, l, count))
 
 -- ends of ranges of so many columns are ends of as many ranges as there are
 pub all_ends : (count cols n : ℕ) (ends : List ℕ) → AreEnds count cols ends → n ≡ cols → AreEnds (length ends) n ends

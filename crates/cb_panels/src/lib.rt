@@ -1,4 +1,4 @@
-//! Operations and selections by several threads, which share the operands: [`operate`] and [`select`] do any.
+//! What is computed of matrices by several threads, which share the operands: [`compute`] computes anything.
 //!
 //! For a product, each thread makes a panel of it: the product of the left block and some columns of the right. The columns
 //! are divided so that all panels take about the same number of products of two values, as in `cb_shares`. No operand is
@@ -8,9 +8,8 @@
 //! panels stand side by side, and no entry is copied; [`multiply`] copies them into one block, for callers that need one.
 #![tactic(auto)]
 
-mod operations;
+mod computations;
 mod ranges;
-mod selections;
 
 ghost use Rattle.std.specs.Prelude.{◌≡◌, ◌<◌, ◌≤◌, IfOk, length};
 ghost use Rattle.std.specs.Thread.{IsSync};
@@ -22,8 +21,7 @@ use cb_dcsc::Block;
 use cb_layout::PanelledMatrix;
 use cb_product::{ColumnIndex, multiply_columns, products_of_columns, total_products};
 use cb_semirings::Semiring;
-pub use operations::operate;
-pub use selections::select;
+pub use computations::compute;
 use std::alloc::{AllocError, Global};
 use std::thread::{Threads, join};
 

@@ -26,7 +26,7 @@ mod tables;
 
 pub use acts::{Act, Half, Op, Start};
 pub use checks::CheckedPlan;
-pub use operands::Operands;
+pub use operands::ReadSlots;
 pub use plans::{MOST_ACTS, Plan, PlanFault, PlanFaultKind, Planned};
 pub use shared_blocks::SharedBlock;
 pub use stores::{RankStore, SLOTS, Slot};

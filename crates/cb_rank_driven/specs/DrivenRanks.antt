@@ -14,8 +14,8 @@ use Rattle.cb_rank.specs.declared.wants.Want.TheVariants as want_is
 use Rattle.cb_rank.specs.Halves.{Course, DoesHalf, RunsTo}
 use Rattle.cb_rank.specs.Ranks.{RankView, IsRank, FitsAt, IsAwaited, next_half, new_rank, onward}
 use Rattle.cb_rank_runs.specs.Runs.{fresh}
-use Rattle.cb_rank_driven.specs.declared.driven_ranks.Refusal.{Refusal}
-use Rattle.cb_rank_driven.specs.declared.driven_ranks.Refusal.TheVariants as refusal_is
+use Rattle.cb_rank_driven.specs.declared.driven_ranks.StepRefusal.{StepRefusal}
+use Rattle.cb_rank_driven.specs.declared.driven_ranks.StepRefusal.TheVariants as refusal_is
 
 -- the rank, the slots with which it began, and the letters to and from each rank, oldest first
 pub record DrivenView : Type 0 where
@@ -92,7 +92,7 @@ IsPostOrShut (want_is.Shut to) = Unit {0}
 IsPostOrShut want = ⊥
 
 -- why a call did nothing, which was to come now if this is its turn, with a letter that was the next one if that holds
-abbrev pub IsRefusal : Type 0 → Type 0 → Refusal → Type 0
+abbrev pub IsRefusal : Type 0 → Type 0 → StepRefusal → Type 0
 IsRefusal turn next refusal_is.NotNow = turn → ⊥
 IsRefusal turn next refusal_is.Stray = turn × (next → ⊥)
 IsRefusal turn next refusal_is.Memory = turn

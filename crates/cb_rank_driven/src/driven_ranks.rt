@@ -37,7 +37,7 @@ impl From<AllocError> for StartFault {
 
 /// Why a call did nothing.
 #[derive(Clone, Copy, Drop)]
-pub enum Refusal {
+pub enum StepRefusal {
     /// Another half is next.
     NotNow,
     /// The half doesn't wait for this letter.
@@ -46,14 +46,14 @@ pub enum Refusal {
     Memory,
 }
 
-impl From<AllocError> for Refusal {
+impl From<AllocError> for StepRefusal {
     ghost use Rattle.std.specs.Prelude.{◌≡◌};
-    ghost use Rattle.cb_rank_driven.specs.declared.driven_ranks.Refusal.TheVariants.{Memory};
+    ghost use Rattle.cb_rank_driven.specs.declared.driven_ranks.StepRefusal.TheVariants.{Memory};
 
     ghost from_gives = { λ _ refusal. refusal ≡ Memory };
 
-    fn from(_error: AllocError) -> Refusal {
-        Refusal::Memory
+    fn from(_error: AllocError) -> StepRefusal {
+        StepRefusal::Memory
     }
 }
 
@@ -135,7 +135,7 @@ impl<S: Semiring> DrivenRank<S> {
 
     /// Does a Post or a Shut, and returns the letter. If memory for the copy of a sheet is refused, the letter says that it was
     /// lost here.
-    pub fn post(&mut self) -> Result<Letter<SharedBlock<S>>, Refusal>
+    pub fn post(&mut self) -> Result<Letter<SharedBlock<S>>, StepRefusal>
         ensures posts { IfOk result (λ letter. Posts S.arithmetic self.old letter self.new) }
         ensures refused { IfErr result (IsRefusal (IsPostOrShut (want_of (next_half self.old.rank))) (Unit {0})) }
         ensures unchanged { OnErr result (self.new ≡ self.old) }
@@ -143,16 +143,16 @@ impl<S: Semiring> DrivenRank<S> {
         match self.rank.want() {
             Want::Post(to) => self.post_sheet(to),
             Want::Shut(to) => self.post_mark(to),
-            _ => Err(Refusal::NotNow),
+            _ => Err(StepRefusal::NotNow),
         }
     }
 
     /// Does a Post.
-    fn post_sheet(&mut self, to: u16) -> Result<Letter<SharedBlock<S>>, Refusal>
+    fn post_sheet(&mut self, to: u16) -> Result<Letter<SharedBlock<S>>, StepRefusal>
         requires rank { IsRank self.old.rank }
         requires want { want_of (next_half self.old.rank) ≡ Want.Post to }
         ensures posts { IfOk result (λ letter. Posts S.arithmetic self.old letter self.new) }
-        ensures refused { IfErr result (λ r. r ≡ Refusal.Memory) }
+        ensures refused { IfErr result (λ r. r ≡ StepRefusal.Memory) }
         ensures unchanged { OnErr result (self.new ≡ self.old) }
     {
         self.posted.make_room(to)?;
@@ -171,11 +171,11 @@ impl<S: Semiring> DrivenRank<S> {
     }
 
     /// Does a Shut.
-    fn post_mark(&mut self, to: u16) -> Result<Letter<SharedBlock<S>>, Refusal>
+    fn post_mark(&mut self, to: u16) -> Result<Letter<SharedBlock<S>>, StepRefusal>
         requires rank { IsRank self.old.rank }
         requires want { want_of (next_half self.old.rank) ≡ Want.Shut to }
         ensures posts { IfOk result (λ letter. Posts S.arithmetic self.old letter self.new) }
-        ensures refused { IfErr result (λ r. r ≡ Refusal.Memory) }
+        ensures refused { IfErr result (λ r. r ≡ StepRefusal.Memory) }
         ensures unchanged { OnErr result (self.new ≡ self.old) }
     {
         self.posted.make_room(to)?;
@@ -194,7 +194,7 @@ impl<S: Semiring> DrivenRank<S> {
     }
 
     /// Does a Take or an End with a letter.
-    pub fn take(&mut self, letter: Letter<SharedBlock<S>>) -> Result<(), Refusal>
+    pub fn take(&mut self, letter: Letter<SharedBlock<S>>) -> Result<(), StepRefusal>
         ensures takes { OnOk result (Takes S.arithmetic self.old letter self.new) }
         ensures refused { IfErr result (IsRefusal (IsTakeOrEnd (want_of (next_half self.old.rank))) (IsNextLetter self.old letter)) }
         ensures unchanged { OnErr result (self.new ≡ self.old) }
@@ -202,12 +202,12 @@ impl<S: Semiring> DrivenRank<S> {
         match self.rank.want() {
             Want::Take(from) => self.take_sheet(from, letter),
             Want::End(from) => self.take_mark(from, letter),
-            _ => Err(Refusal::NotNow),
+            _ => Err(StepRefusal::NotNow),
         }
     }
 
     /// Does a Take.
-    fn take_sheet(&mut self, from: u16, letter: Letter<SharedBlock<S>>) -> Result<(), Refusal>
+    fn take_sheet(&mut self, from: u16, letter: Letter<SharedBlock<S>>) -> Result<(), StepRefusal>
         requires rank { IsRank self.old.rank }
         requires want { want_of (next_half self.old.rank) ≡ Want.Take from }
         ensures takes { OnOk result (Takes S.arithmetic self.old letter self.new) }
@@ -215,12 +215,12 @@ impl<S: Semiring> DrivenRank<S> {
         ensures unchanged { OnErr result (self.new ≡ self.old) }
     {
         if letter.number != self.taken.count(from) as u64 {
-            return Err(Refusal::Stray);
+            return Err(StepRefusal::Stray);
         }
         self.taken.make_room(from)?;
         let note = Snapshot::of(&letter);
         let Ok(()) = self.rank.accept(Arrival::Letter(letter)) else {
-            return Err(Refusal::Stray);
+            return Err(StepRefusal::Stray);
         };
         let _after = self.rank.want();
         self.taken.note(from, note);
@@ -228,7 +228,7 @@ impl<S: Semiring> DrivenRank<S> {
     }
 
     /// Does an End.
-    fn take_mark(&mut self, from: u16, letter: Letter<SharedBlock<S>>) -> Result<(), Refusal>
+    fn take_mark(&mut self, from: u16, letter: Letter<SharedBlock<S>>) -> Result<(), StepRefusal>
         requires rank { IsRank self.old.rank }
         requires want { want_of (next_half self.old.rank) ≡ Want.End from }
         ensures takes { OnOk result (Takes S.arithmetic self.old letter self.new) }
@@ -236,12 +236,12 @@ impl<S: Semiring> DrivenRank<S> {
         ensures unchanged { OnErr result (self.new ≡ self.old) }
     {
         if letter.number != self.taken.count(from) as u64 || !is_mark(&letter, from, self.me) {
-            return Err(Refusal::Stray);
+            return Err(StepRefusal::Stray);
         }
         self.taken.make_room(from)?;
         let note = Snapshot::of(&letter);
         let Ok(()) = self.rank.accept(Arrival::End(from)) else {
-            return Err(Refusal::Stray);
+            return Err(StepRefusal::Stray);
         };
         let _after = self.rank.want();
         self.taken.note(from, note);
@@ -249,13 +249,13 @@ impl<S: Semiring> DrivenRank<S> {
     }
 
     /// Does a Work. If memory for its result is refused, the result is lost here.
-    pub fn work(&mut self) -> Result<(), Refusal>
+    pub fn work(&mut self) -> Result<(), StepRefusal>
         ensures does { OnOk result (DoesNext S.arithmetic self.old self.new) }
-        ensures refused { IfErr result (λ r. (r ≡ Refusal.NotNow) × (want_of (next_half self.old.rank) ≡ Want.Work → ⊥)) }
+        ensures refused { IfErr result (λ r. (r ≡ StepRefusal.NotNow) × (want_of (next_half self.old.rank) ≡ Want.Work → ⊥)) }
         ensures unchanged { OnErr result (self.new ≡ self.old) }
     {
         let Want::Work = self.rank.want() else {
-            return Err(Refusal::NotNow);
+            return Err(StepRefusal::NotNow);
         };
         self.rank.work(Supply::Granted);
         let _after = self.rank.want();

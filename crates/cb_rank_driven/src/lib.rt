@@ -14,4 +14,4 @@ mod driven_ranks;
 mod first_stores;
 mod lane_letters;
 
-pub use driven_ranks::{DrivenRank, NoBlock, Refusal, StartFault};
+pub use driven_ranks::{DrivenRank, NoBlock, StartFault, StepRefusal};

@@ -5,7 +5,7 @@ use crate::runs::{Order, Probe, go};
 use cb_letters::{Body, Letter, Tag};
 use cb_plan::SLOTS;
 use cb_rank::Want;
-use cb_rank_driven::{DrivenRank, NoBlock, Refusal, StartFault};
+use cb_rank_driven::{DrivenRank, NoBlock, StartFault, StepRefusal};
 use std::alloc::Global;
 
 /// The first close mark of the lane from rank 0 to rank 1.
@@ -24,7 +24,7 @@ fn keeps_from_posting(rank: &mut Ranked) -> bool {
     match rank.want() {
         Want::Post(_) => true,
         Want::Shut(_) => true,
-        _ => matches!(rank.post(), Err(Refusal::NotNow)),
+        _ => matches!(rank.post(), Err(StepRefusal::NotNow)),
     }
 }
 
@@ -33,7 +33,7 @@ fn keeps_from_taking(rank: &mut Ranked) -> bool {
     match rank.want() {
         Want::Take(_) => true,
         Want::End(_) => true,
-        _ => matches!(rank.take(mark()), Err(Refusal::NotNow)),
+        _ => matches!(rank.take(mark()), Err(StepRefusal::NotNow)),
     }
 }
 
@@ -41,7 +41,7 @@ fn keeps_from_taking(rank: &mut Ranked) -> bool {
 fn keeps_from_working(rank: &mut Ranked) -> bool {
     match rank.want() {
         Want::Work => true,
-        _ => matches!(rank.work(), Err(Refusal::NotNow)),
+        _ => matches!(rank.work(), Err(StepRefusal::NotNow)),
     }
 }
 

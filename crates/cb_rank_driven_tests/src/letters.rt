@@ -3,7 +3,7 @@ use crate::carriers::{Carrier, Ranked};
 use cb_lists::Columns;
 use cb_messages::{Head, MessageFault, letter_of};
 use cb_rank::Want;
-use cb_rank_driven::Refusal;
+use cb_rank_driven::StepRefusal;
 use cb_semirings::PlusTimes;
 use std::alloc::Global;
 
@@ -46,7 +46,7 @@ fn spoilt_lists<'a>(way: u32, lists: &Columns<'a>) -> Columns<'a> {
 /// Whether a rank refuses a head and lists.
 fn refuses(alloc: Global, rank: &mut Ranked, head: &Head, lists: &Columns) -> bool {
     match letter_of::<PlusTimes>(alloc, head, lists) {
-        Ok(letter) => matches!(rank.take(letter), Err(Refusal::Stray)),
+        Ok(letter) => matches!(rank.take(letter), Err(StepRefusal::Stray)),
         Err(fault) => matches!(fault, MessageFault::Broken),
     }
 }

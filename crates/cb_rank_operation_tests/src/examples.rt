@@ -2,14 +2,13 @@
 use cb_dcsc::Block;
 use cb_layout::Grid;
 use cb_matrix::Matrix;
-use cb_operations::{Operands, Operation};
+use cb_operations::{Computation, ComputeFault, Operands, Operation};
 use cb_rank_engines::Engine;
 use cb_rank_faults::RanksFault;
 use cb_rank_operations::{OperationFault, run_matrices};
 use cb_rank_world::Event;
 use cb_samples::{are_values, entry, shape};
 use cb_semirings::{MinPlus, Semiring};
-use cb_serial::SerialFault;
 use std::alloc::{AllocError, Global};
 use std::sync::Wait;
 use std::thread::Threads;
@@ -171,14 +170,15 @@ fn computed(
     alloc: Global,
     given: &Given,
     operation: Operation,
-) -> Result<Block<MinPlus>, SerialFault> {
+) -> Result<Block<MinPlus>, ComputeFault> {
     let a = block(alloc, &given.left)?;
     let b = block(alloc, given.second(operation))?;
     let mask = block(alloc, &given.mask)?;
-    match operation.operand_count() {
-        1 => cb_serial::run(alloc, operation, &[&a]),
-        2 => cb_serial::run(alloc, operation, &[&a, &b]),
-        _ => cb_serial::run(alloc, operation, &[&a, &b, &mask]),
+    let computation = Computation::Operation(operation);
+    match computation.operand_count() {
+        1 => cb_serial::compute(alloc, computation, &[&a]),
+        2 => cb_serial::compute(alloc, computation, &[&a, &b]),
+        _ => cb_serial::compute(alloc, computation, &[&a, &b, &mask]),
     }
 }
 
@@ -190,8 +190,8 @@ pub fn made_alone(
 ) -> Result<Matrix<MinPlus>, OperationFault> {
     match computed(alloc, given, operation) {
         Ok(block) => Ok(whole(&block)?),
-        Err(SerialFault::Refused(refusal)) => Err(OperationFault::Refused(refusal)),
-        Err(SerialFault::Memory) => Err(OperationFault::Failed(RanksFault::Memory)),
+        Err(ComputeFault::Refused(refusal)) => Err(OperationFault::Refused(refusal)),
+        Err(ComputeFault::Memory) => Err(OperationFault::Failed(RanksFault::Memory)),
     }
 }
 

@@ -1,7 +1,7 @@
 //! Why a call of a process isn't done.
 use cb_messages::MessageFault;
 use cb_plan::PlanFault;
-use cb_rank_driven::Refusal;
+use cb_rank_driven::StepRefusal;
 use std::alloc::AllocError;
 
 /// Why a call of a process isn't done.
@@ -34,12 +34,12 @@ impl From<AllocError> for ProcessFault {
     }
 }
 
-impl From<Refusal> for ProcessFault {
-    fn from(refusal: Refusal) -> ProcessFault {
+impl From<StepRefusal> for ProcessFault {
+    fn from(refusal: StepRefusal) -> ProcessFault {
         match refusal {
-            Refusal::NotNow => ProcessFault::NotNow,
-            Refusal::Stray => ProcessFault::Stray,
-            Refusal::Memory => ProcessFault::Memory,
+            StepRefusal::NotNow => ProcessFault::NotNow,
+            StepRefusal::Stray => ProcessFault::Stray,
+            StepRefusal::Memory => ProcessFault::Memory,
         }
     }
 }

@@ -23,7 +23,7 @@ mod runs;
 
 pub use crew::{Member, assemble};
 pub use finished::{Finished, Remains};
-pub use logs::{Log, events_of, lists_of};
+pub use logs::{Log, event_lists, events_of};
 pub use observers::{NoObserver, Observer};
 pub use recorders::{Recorder, Silent};
 pub use runs::{run_rank, run_recorded};

@@ -95,7 +95,7 @@ fn is_told(act: &Act, rank: u16) -> bool {
 }
 
 /// The lists of these logs, in the room for them. None if a log is torn.
-pub fn lists_of<S: Semiring, O: Observer<S>>(
+pub fn event_lists<S: Semiring, O: Observer<S>>(
     logs: Vec<Log<'_, S, O>>,
     room: Vec<Vec<TraceEvent>>,
 ) -> Option<Vec<Vec<TraceEvent>>>

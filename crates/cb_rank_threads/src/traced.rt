@@ -11,7 +11,7 @@ use crate::threads::run_told;
 use cb_letters::Capacity;
 use cb_plan::{CheckedPlan, RankStore};
 use cb_rank_faults::RanksFault;
-use cb_rank_runs::{Finished, Log, Observer, events_of, lists_of};
+use cb_rank_runs::{Finished, Log, Observer, event_lists, events_of};
 use cb_semirings::Semiring;
 use cb_trace::{SharedTrace, Trace, TraceEvent};
 use std::alloc::Global;
@@ -70,7 +70,7 @@ fn run_logged<S: Semiring + Send + Sync, R: Threads + Wait + Sync, O: Observer<S
     let mut logs = Log::open(alloc, plan, trace, observer)?;
     let room = Vec::with_capacity(alloc, logs.len())?;
     let finished = run_told(rt, alloc, plan, stores, capacity, observer, &mut logs)?;
-    let Some(lists) = lists_of(logs, room) else {
+    let Some(lists) = event_lists(logs, room) else {
         return Err(RanksFault::TraceTorn);
     };
     Ok((finished, lists))

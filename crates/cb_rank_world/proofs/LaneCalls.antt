@@ -15,7 +15,7 @@ use Rattle.cb_letters.specs.Standing.{Standing, standing_refusal, last_number}
 use Rattle.cb_letters.proofs.Standings.{not_closed}
 use Rattle.cb_mailbox.specs.declared.calls.Call.{Call}
 use Rattle.cb_mailbox.specs.declared.calls.Call.TheVariants as call_is
-use Rattle.cb_mailbox.specs.declared.calls.Answer.{Answer}
+use Rattle.cb_mailbox.specs.declared.calls.Reply.{Reply}
 use Rattle.cb_mailbox.specs.Inbox.{Inbox, is_stranger, post_refusal, HasLanes}
 use Rattle.cb_mailbox.specs.Run.{answer, after, after_all, answers_to}
 use Rattle.cb_mailbox.proofs.Exchanges.{taken_once, for_addressee, in_posting_order, nothing_after_close, given_out}
@@ -56,7 +56,7 @@ after_all-join box (x ∷ xs) ys = after_all-join (after box x) xs ys
 
 answers_to-join : (box : Inbox Sparse) (xs ys : List (Call Sparse)) → answers_to box (xs ++ ys) ≡ answers_to box xs ++ answers_to (after_all box xs) ys
 answers_to-join box [] ys = refl
-answers_to-join box (x ∷ xs) ys = ap (λ (rest : List (Answer Sparse)). answer box x ∷ rest) (answers_to-join (after box x) xs ys)
+answers_to-join box (x ∷ xs) ys = ap (λ (rest : List (Reply Sparse)). answer box x ∷ rest) (answers_to-join (after box x) xs ys)
 
 calls_to-append : (t : ℕ) (xs ys : List Exchange) → calls_to t (xs ++ ys) ≡ calls_to t xs ++ calls_to t ys
 calls_to-append t xs ys =

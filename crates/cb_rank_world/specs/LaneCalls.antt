@@ -6,7 +6,7 @@ use Rattle.cb_matrix.specs.Sparse.{Sparse}
 use Rattle.cb_letters.specs.declared.Body.{Body}
 use Rattle.cb_mailbox.specs.declared.calls.Call.{Call}
 use Rattle.cb_mailbox.specs.declared.calls.Call.TheVariants as call_is
-use Rattle.cb_mailbox.specs.declared.calls.Answer.{Answer}
+use Rattle.cb_mailbox.specs.declared.calls.Reply.{Reply}
 use Rattle.cb_mailbox.specs.Inbox.{Inbox}
 use Rattle.cb_mailbox.specs.Run.{answer, after}
 use Rattle.cb_mailbox.specs.Exchanges as mailbox
@@ -23,14 +23,14 @@ use Rattle.cb_rank_world.specs.WorldSteps.{Steps, rank_in}
 pub record Exchange : Type 0 where
   pub to : ℕ
   pub call : Call Sparse
-  pub answered : Answer Sparse
+  pub answered : Reply Sparse
 
 -- the calls of rank t's mailbox, in order
 abbrev pub calls_to : ℕ → List Exchange → List (Call Sparse)
 calls_to t xs = map (λ x. x.call) (filter (λ x. x.to == t) xs)
 
 -- the answers to them
-abbrev pub answers_from : ℕ → List Exchange → List (Answer Sparse)
+abbrev pub answers_from : ℕ → List Exchange → List (Reply Sparse)
 answers_from t xs = map (λ x. x.answered) (filter (λ x. x.to == t) xs)
 
 -- this is the call that rank r makes for a half: it posts to the addressee's mailbox, closes the lane there, and takes from its

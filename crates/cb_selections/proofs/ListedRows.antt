@@ -1,4 +1,4 @@
--- Rows that are listed, in ascending order.
+-- Rows that are listed.
 use Rattle.std.proofs.Common.{◌≡◌, ◌≢◌, ℕ, ◌+◌, ◌<◌, ◌≤◌, cond, List, [], ◌∷◌, ◌++◌, length, take, get_or, set, replicate, sym, refl, ap, subst, ◌∙◌, ⊎_elim, arith, length-take}
 use Rattle.std.specs.Prelude.{All, AllPairs, Contains, ◌==◌, nat_lt}
 use Rattle.std.proofs.lemmas.Bool.{cases_lt, cases_eq, cond-true, cond-false, eq-eqb, ne_eqb, lt-ltb, le-ltb}
@@ -18,38 +18,38 @@ use Rattle.cb_product.proofs.ColumnsMade.{absent_value}
 use Rattle.cb_product.proofs.OwnColumn.{own_sparse}
 use Rattle.cb_product.proofs.ProductColumns.{own_column}
 use Rattle.cb_product.proofs.RowValues.{absent_above, row_value-push, row_value-none}
-use Rattle.cb_selections.specs.ListedRows.{ArePlaces, IsListed}
+use Rattle.cb_selections.specs.ListedRows.{HoldPlaces, ArePlaces, IsListed}
 use Rattle.cb_selections.specs.Extracted.{rows_by}
 
 -- ---- a table of places
--- the table has the places of the first n listed numbers, and numbers past the end of the list for all others
+-- the table has the places of the first n listed numbers, of each the last one, and numbers past the end of the list for all others
 pub record ArePlacesTo (bound n : ℕ) (listed places : List ℕ) : Type 0 where
   pub count : length places ≡ bound
-  pub own : (i : ℕ) → i < n → get_or places (get_or listed i 0) 0 ≡ i
+  pub own : AllPairs (λ i j. i < j) listed → (i : ℕ) → i < n → get_or places (get_or listed i 0) 0 ≡ i
   pub held : (r : ℕ) → r < bound → get_or places r 0 < length listed → (get_or places r 0 < n) × (get_or listed (get_or places r 0) 0 ≡ r)
 
 -- none yet
 pub places_none : (bound past : ℕ) (listed : List ℕ) → length listed ≤ past → ArePlacesTo bound 0 listed (replicate bound past)
 places_none bound past listed high = record {
   count = length-replicate bound past;
-  own = λ i b. absurd (omega arith);
+  own = λ up i b. absurd (omega arith);
   held = λ r l b. let e : get_or (replicate bound past) r 0 ≡ past = get_or-replicate bound r past 0 l in absurd (omega arith);
 }
 
 -- one more
-pub places_more : (bound n : ℕ) (listed places : List ℕ) → All (λ i. i < bound) listed → AllPairs (λ i j. i < j) listed → n < length listed → ArePlacesTo bound n listed places → ArePlacesTo bound (n + 1) listed (set places (get_or listed n 0) n)
-places_more bound n listed places inside up l h =
+pub places_more : (bound n : ℕ) (listed places : List ℕ) → All (λ i. i < bound) listed → n < length listed → ArePlacesTo bound n listed places → ArePlacesTo bound (n + 1) listed (set places (get_or listed n 0) n)
+places_more bound n listed places inside l h =
     let row = get_or listed n 0 in
     let low : row < bound = All-get_or (λ i. i < bound) listed n 0 l inside in
     let count = h.count in
     let here : get_or (set places row n) row 0 ≡ n = get_or-set_same places row n 0 (omega arith) in
     record {
       count = length-set places row n ∙ h.count;
-      own = λ i b. ⊎_elim
+      own = λ up i b. ⊎_elim
           (λ (before : i < n).
           let less : get_or listed i 0 < row = up i n 0 before l in
           let other : get_or listed i 0 ≢ row = omega arith in
-          get_or-set_other places row (get_or listed i 0) n 0 other ∙ h.own i before)
+          get_or-set_other places row (get_or listed i 0) n 0 other ∙ h.own up i before)
           (λ (last : n ≤ i).
           let same : i ≡ n = omega arith in
           ap (λ k. get_or (set places row n) (get_or listed k 0) 0) same ∙ here ∙ sym same)
@@ -67,13 +67,13 @@ places_more bound n listed places inside up l h =
           (cases_eq r row);
     }
 
--- with all, it is the table
-pub places_all : (bound n : ℕ) (listed places : List ℕ) → length listed ≤ n → ArePlacesTo bound n listed places → ArePlaces bound listed places
-places_all bound n listed places l h = record {
-  count = h.count;
-  own = λ i b. h.own i (omega arith);
-  held = λ r m b. (h.held r m b).1;
-}
+-- with all, it has a place of each listed number
+pub places_held : (bound n : ℕ) (listed places : List ℕ) → ArePlacesTo bound n listed places → HoldPlaces bound listed places
+places_held bound n listed places h = record { count = h.count; held = λ r m b. (h.held r m b).1 }
+
+-- and the place of each, if they ascend
+pub places_all : (bound n : ℕ) (listed places : List ℕ) → length listed ≤ n → ArePlacesTo bound n listed places → AllPairs (λ i j. i < j) listed → ArePlaces bound listed places
+places_all bound n listed places l h up = record { count = h.count; own = λ i b. h.own up i (omega arith); held = λ r m b. (h.held r m b).1 }
 
 -- a number without a place isn't listed
 pub not_listed : (bound number : ℕ) (listed places : List ℕ) → ArePlaces bound listed places → length listed ≤ get_or places number 0 → All (λ r. r ≢ number) listed

@@ -1,18 +1,15 @@
 -- What kernels make on their way to a selection, and what lets them copy whole lists.
-use Rattle.std.specs.Prelude.{◌≡◌, ℕ, ◌<◌, Bool, true, false, not, length, get_or, map, List}
+use Rattle.std.specs.Prelude.{◌≡◌, ℕ, ◌<◌, ◌≤◌, ◌-◌, Bool, true, false, cond, length, get_or, map, List}
 use Rattle.cb_semirings.specs.Arithmetic.{Arithmetic}
 use Rattle.cb_matrix.specs.declared.Entry.{Entry}
-use Rattle.cb_matrix.specs.Sparse.{Sparse, Extent, at}
-use Rattle.cb_matrix.specs.Values.{matrix_of}
-use Rattle.cb_matrix.specs.Operations.{is_covered}
 use Rattle.cb_dcsc.specs.Columns.{row_value}
 use Rattle.cb_operations.specs.declared.regions.Region.{Region}
 use Rattle.cb_operations.specs.declared.regions.Region.TheVariants.{Lower, Upper, On, Off}
 use Rattle.cb_operations.specs.declared.functions.Function.{Function}
 use Rattle.cb_operations.specs.declared.functions.Function.TheVariants.{Constant, Sum, LeftProduct, RightProduct, Row, Column}
 use Rattle.cb_operations.specs.Functions.{function_value}
-use Rattle.cb_operations.specs.Regions.{where_true}
 use Rattle.cb_operations.specs.Selected.{pair_value}
+use Rattle.cb_selections.specs.Extracted.{is_between}
 
 -- whether the rows of a region follow one another in each column
 abbrev pub is_one_range : Region → Bool
@@ -43,9 +40,17 @@ pub record AreMade (IsMade : ℕ → ℕ → ℕ → Type 0) (rows values made :
 abbrev pub results_of : Arithmetic → Function → List Entry → List ℕ
 results_of s function es = map (λ e. function_value s function e.row e.column e.value) es
 
--- a matrix without its part of some shape that begins at a corner
-abbrev pub outside : Arithmetic → ℕ × ℕ → Extent → Sparse → Sparse
-outside s corner part a = matrix_of s a.shape (λ i j. where_true s.zero (not (is_covered corner part i j)) (at s a i j))
+-- The first n of these numbers are those below c.
+pub record IsFirstFrom (numbers : List ℕ) (c n : ℕ) : Type 0 where
+  pub within : n ≤ length numbers
+  pub below : (k : ℕ) → k < n → get_or numbers k 0 < c
+  pub from : (k : ℕ) → n ≤ k → k < length numbers → c ≤ get_or numbers k 0
+
+-- the kept rows and values are a column whose rows in a range are replaced by those of another one, moved to the range
+abbrev pub HasRowsReplaced : ℕ → ℕ × ℕ → List ℕ → List ℕ → List ℕ → List ℕ → List ℕ → List ℕ → Type 0
+HasRowsReplaced z range rows values part_rows part_values kept_rows kept_values =
+    (i : ℕ) → row_value z kept_rows kept_values i
+    ≡ cond (is_between range.0 range.1 i) (row_value z part_rows part_values (i - range.0)) (row_value z rows values i)
 
 -- the kept rows and values are the Kronecker product of two columns, of which the second has h rows
 abbrev pub IsPaired : Arithmetic → ℕ → List ℕ → List ℕ → List ℕ → List ℕ → List ℕ → List ℕ → Type 0

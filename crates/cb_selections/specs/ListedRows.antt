@@ -1,6 +1,11 @@
--- Rows that are listed, in ascending order.
+-- Rows that are listed.
 use Rattle.std.specs.Prelude.{◌≡◌, ℕ, ◌<◌, List, length, slice_index, All, AllPairs, Contains}
 use Rattle.cb_dcsc.specs.Columns.{row_value}
+
+-- A table with a number for each row below a bound: a place of it in the list, or a number past the end of the list.
+pub record HoldPlaces (bound : ℕ) (listed places : List ℕ) : Type 0 where
+  pub count : length places ≡ bound
+  pub held : (r : ℕ) → r < bound → slice_index places r < length listed → slice_index listed (slice_index places r) ≡ r
 
 -- A table with a number for each row below a bound: where each listed row is in the list, and past its end for all others.
 pub record ArePlaces (bound : ℕ) (listed places : List ℕ) : Type 0 where

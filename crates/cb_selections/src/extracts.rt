@@ -1,19 +1,22 @@
 //! Rows and columns of a block by their numbers.
 //!
-//! Columns are found one by one. Rows are the columns of the transpose; but where their numbers ascend, their entries stay in
-//! order, so each entry's row is looked up instead, in a table with a place for each row of the block. Whether a row is listed
-//! can't be predicted, so its entry is written in any case, and the next one over it if it isn't.
+//! Columns are found one by one. Rows are the columns of the transpose; but where no row is listed twice, each entry's row is
+//! looked up instead, in a table with a place for each row of the block. Whether a row is listed can't be predicted, so its
+//! entry is written in any case, and the next one over it if it isn't. Where the numbers ascend, the entries of a column stay
+//! in order; otherwise they are sorted (`sorted_rows`).
 //!
 //! The columns of a range of the result are made alone, so that threads can share them.
-ghost use Rattle.std.specs.Prelude.{◌≡◌, ℕ, ◌<◌, ◌≤◌, IsTrue, None, option_copied, length, take, slice_index, All, AllPairs, IfOk, OnOk};
+ghost use Rattle.std.specs.Prelude.{◌≡◌, ℕ, ◌<◌, ◌≤◌, IsTrue, None, option_copied, length, take, slice_index, All, AllPairs, IfOk, IfSome, OnOk};
 ghost use Rattle.cb_semirings.specs.Arithmetic.{IsValue};
 ghost use Rattle.cb_matrix.specs.Sparse.{IsMatrix};
 ghost use Rattle.cb_matrix.specs.Values.{empty_matrix};
 ghost use Rattle.cb_dcsc.specs.Columns.{in_column, rows_of, values_of};
 ghost use Rattle.cb_selections.specs.Extracted.{AreBelow, AreFew, columns_between, extracted_between, extracted_by, listed_or_all, rows_by, columns_by};
-ghost use Rattle.cb_selections.specs.ListedRows.{ArePlaces, IsListed};
+ghost use Rattle.cb_selections.specs.ListedRows.{HoldPlaces, ArePlaces, IsListed};
+ghost use Rattle.cb_selections.specs.RowTables.{IsRowTable};
 
 use crate::shape_of;
+use crate::sorted_rows::{KeptColumn, write_sorted};
 use cb_dcsc::Block;
 use cb_lists::ascends;
 use cb_matrix::LIMIT;
@@ -101,8 +104,8 @@ fn both_between<S: Semiring>(
         return columns_between(alloc, block, cols, first, end);
     }
     let entries = entries_between(block, cols, first, end);
-    if pays_table(block.shape().rows(), rows.len(), entries) && ascends(rows) {
-        return listed_between(alloc, block, rows, cols, first, end, entries);
+    if let Some(table) = table_of(alloc, block.shape().rows(), rows, entries)? {
+        return listed_between(alloc, block, rows, &table, cols, first, end, entries);
     }
     let some = columns_between(alloc, block, cols, first, end)?;
     turned_rows(alloc, &some, rows)
@@ -129,41 +132,65 @@ fn pays_table(height: u32, listed: usize, entries: usize) -> bool {
     height as usize / ROWS_PER_PLACE <= listed.max(entries)
 }
 
-/// The same columns, of the listed rows, which ascend.
+/// Where the rows of a block are in a list of rows, of which none is listed twice.
+#[derive(Drop)]
+struct RowTable {
+    places: Vec<u32>,
+    ascending: bool,
+}
+
+/// The table of listed rows, if it costs no more than they do or the entries that are looked up, and no row is listed twice.
+fn table_of(
+    alloc: Global,
+    height: u32,
+    listed: &[u32],
+    entries: usize,
+) -> Result<Option<RowTable>, AllocError>
+    requires rows { All (λ i. i < height) listed.now }
+    requires limit { length listed.now ≤ LIMIT }
+    ensures { IfOk result (λ table. IfSome table (IsRowTable height listed.now)) }
+{
+    if !pays_table(height, listed.len(), entries) {
+        return Ok(None);
+    }
+    let places = places_of(alloc, height, listed)?;
+    if ascends(listed) {
+        return Ok(Some(RowTable {
+            places,
+            ascending: true,
+        }));
+    }
+    if have_own(listed, &places) {
+        return Ok(Some(RowTable {
+            places,
+            ascending: false,
+        }));
+    }
+    Ok(None)
+}
+
+/// The same columns, of the listed rows, by their table.
 fn listed_between<S: Semiring>(
     alloc: Global,
     block: &Block<S>,
     listed: &[u32],
+    table: &RowTable,
     cols: &[u32],
     first: usize,
     end: usize,
     entries: usize,
 ) -> Result<Block<S>, AllocError>
-    requires rows { All (λ i. i < block.now.shape.rows) listed.now }
     requires row_limit { length listed.now ≤ LIMIT }
     requires column_limit { length cols.now ≤ LIMIT }
-    requires ascending { AllPairs (λ i j. i < j) listed.now }
+    requires table { IsRowTable block.now.shape.rows listed.now table.now }
     requires order { first ≤ end }
     requires within { end ≤ length cols.now }
     ensures { IfOk result (λ part. part ≡ extracted_between S.arithmetic listed.now cols.now first end block.now) }
 {
-    let height = block.shape().rows();
-    let places = places_of(alloc, height, listed)?;
     let mut out = Block::empty(alloc, shape_of(listed.len() as u32, cols.len() as u32));
-    out.reserve(expected(height, listed.len(), entries))?;
-    let mut rows = Vec::new(alloc);
-    let mut values = Vec::new(alloc);
-    push_both(
-        &mut out,
-        &mut rows,
-        &mut values,
-        block,
-        listed,
-        &places,
-        cols,
-        first,
-        end,
-    )?;
+    out.reserve(expected(block.shape().rows(), listed.len(), entries))?;
+    let mut kept = KeptColumn::new(alloc);
+    push_both(&mut out, &mut kept, block, listed, table, cols, first, end)?;
     Ok(out)
 }
 
@@ -172,14 +199,13 @@ fn expected(height: u32, listed: usize, entries: usize) -> usize {
     entries.saturating_mul(listed) / (height as usize).max(1)
 }
 
-/// Stores the listed rows of these columns in an empty block. The lists hold one column at a time.
+/// Stores the listed rows of these columns in an empty block.
 fn push_both<S: Semiring>(
     out: &mut Block<S>,
-    kept_rows: &mut Vec<u32>,
-    kept_values: &mut Vec<u64>,
+    kept: &mut KeptColumn,
     block: &Block<S>,
     listed: &[u32],
-    places: &[u32],
+    table: &RowTable,
     cols: &[u32],
     first: usize,
     end: usize,
@@ -187,8 +213,7 @@ fn push_both<S: Semiring>(
     requires matrix { IsMatrix S.arithmetic block.now }
     requires out_matrix { IsMatrix S.arithmetic out.old }
     requires empty { out.old ≡ empty_matrix (record { rows = length listed.now; cols = length cols.now }) }
-    requires ascending { AllPairs (λ i j. i < j) listed.now }
-    requires places { ArePlaces block.now.shape.rows listed.now places.now }
+    requires table { IsRowTable block.now.shape.rows listed.now table.now }
     requires column_limit { length cols.now ≤ LIMIT }
     requires order { first ≤ end }
     requires within { end ≤ length cols.now }
@@ -199,8 +224,8 @@ fn push_both<S: Semiring>(
         let place = place_near(block.column_numbers(), cols[n], missing);
         missing = (cols[n] as usize).saturating_sub(place);
         let (rows, values) = column_of(block, cols[n], place);
-        let count = keep_listed(kept_rows, kept_values, rows, values, listed, places)?;
-        out.push_column(n as u32, &kept_rows[..count], &kept_values[..count])?;
+        let count = keep_listed(kept, rows, values, listed, table)?;
+        out.push_column(n as u32, &kept.rows[..count], &kept.values[..count])?;
     }
     Ok(())
 }
@@ -208,8 +233,9 @@ fn push_both<S: Semiring>(
 /// The rows of a block with the given numbers, in that order. A number may appear more than once.
 ///
 /// If the numbers are those of all rows, in order, it costs a copy. If they ascend, it costs a few instructions for each
-/// number and each entry of the block. Otherwise, or if the block has more than four rows for each entry and for each number,
-/// it costs a binary search for each number, and two transposes.
+/// number and each entry of the block; in any other order also a sort of the kept entries of each column, if none is repeated.
+/// Otherwise, or if the block has more than four rows for each entry and for each number, it costs a binary search for each
+/// number, and two transposes.
 pub fn extract_rows<S: Semiring>(
     alloc: Global,
     block: &Block<S>,
@@ -235,8 +261,8 @@ fn some_rows<S: Semiring>(
     requires limit { length rows.now ≤ LIMIT }
     ensures { IfOk result (λ part. part ≡ rows_by S.arithmetic rows.now block.now) }
 {
-    if pays_table(block.shape().rows(), rows.len(), block.len()) && ascends(rows) {
-        return listed_rows(alloc, block, rows);
+    if let Some(table) = table_of(alloc, block.shape().rows(), rows, block.len())? {
+        return listed_rows(alloc, block, rows, &table);
     }
     turned_rows(alloc, block, rows)
 }
@@ -279,33 +305,30 @@ fn count_in_place(numbers: &[u32], len: u32) -> u32
     count
 }
 
-/// The rows with the given numbers, which ascend, by a table of their places.
+/// The rows with the given numbers, by their table.
 fn listed_rows<S: Semiring>(
     alloc: Global,
     block: &Block<S>,
     listed: &[u32],
+    table: &RowTable,
 ) -> Result<Block<S>, AllocError>
-    requires rows { All (λ i. i < block.now.shape.rows) listed.now }
     requires limit { length listed.now ≤ LIMIT }
-    requires ascending { AllPairs (λ i j. i < j) listed.now }
+    requires table { IsRowTable block.now.shape.rows listed.now table.now }
     ensures { IfOk result (λ part. part ≡ rows_by S.arithmetic listed.now block.now) }
 {
-    let inner = block.shape();
-    let places = places_of(alloc, inner.rows(), listed)?;
-    let mut out = Block::empty(alloc, shape_of(listed.len() as u32, inner.cols()));
-    let mut rows = Vec::new(alloc);
-    let mut values = Vec::new(alloc);
-    push_listed(&mut out, &mut rows, &mut values, block, listed, &places)?;
+    let mut out = Block::empty(alloc, shape_of(listed.len() as u32, block.shape().cols()));
+    let mut kept = KeptColumn::new(alloc);
+    push_listed(&mut out, &mut kept, block, listed, table)?;
     Ok(out)
 }
 
-/// A table with a place for each number below a bound: where that number is in the list, or a number past its end if it isn't
-/// listed.
+/// A table with a place for each number below a bound: where that number is in the list, the last of its places if it is
+/// repeated, or a number past the end of the list if it isn't listed.
 fn places_of(alloc: Global, bound: u32, listed: &[u32]) -> Result<Vec<u32>, AllocError>
     requires inside { All (λ i. i < bound) listed.now }
     requires limit { length listed.now ≤ LIMIT }
-    requires ascending { AllPairs (λ i j. i < j) listed.now }
-    ensures { IfOk result (λ v. ArePlaces bound listed.now v.items) }
+    ensures held { IfOk result (λ v. HoldPlaces bound listed.now v.items) }
+    ensures ascending { AllPairs (λ i j. i < j) listed.now → IfOk result (λ v. ArePlaces bound listed.now v.items) }
 {
     let mut places = vec![in alloc; u32::MAX; bound as usize]?;
     for n in 0..listed.len() {
@@ -314,28 +337,38 @@ fn places_of(alloc: Global, bound: u32, listed: &[u32]) -> Result<Vec<u32>, Allo
     Ok(places)
 }
 
-/// Stores the listed rows in an empty block. The lists hold one column at a time.
+/// Whether the place of each listed number is its own, so none is repeated.
+fn have_own(listed: &[u32], places: &[u32]) -> bool
+    requires inside { All (λ i. i < length places.now) listed.now }
+    ensures { IsTrue result → (i : ℕ) → i < length listed.now → slice_index places.now (slice_index listed.now i) ≡ i }
+{
+    for n in 0..listed.len() {
+        if places[listed[n] as usize] as usize != n {
+            return false;
+        }
+    }
+    true
+}
+
+/// Stores the listed rows in an empty block.
 fn push_listed<S: Semiring>(
     out: &mut Block<S>,
-    kept_rows: &mut Vec<u32>,
-    kept_values: &mut Vec<u64>,
+    kept: &mut KeptColumn,
     block: &Block<S>,
     listed: &[u32],
-    places: &[u32],
+    table: &RowTable,
 ) -> Result<(), AllocError>
     requires matrix { IsMatrix S.arithmetic block.now }
     requires out_matrix { IsMatrix S.arithmetic out.old }
     requires empty { out.old ≡ empty_matrix (record { rows = length listed.now; cols = block.now.shape.cols }) }
-    requires rows { All (λ i. i < block.now.shape.rows) listed.now }
-    requires ascending { AllPairs (λ i j. i < j) listed.now }
-    requires places { ArePlaces block.now.shape.rows listed.now places.now }
+    requires table { IsRowTable block.now.shape.rows listed.now table.now }
     ensures { OnOk result (out.new ≡ rows_by S.arithmetic listed.now block.now) }
 {
     let columns = block.column_numbers();
     for n in 0..columns.len() {
         let (rows, values) = block.nth_column(n);
-        let count = keep_listed(kept_rows, kept_values, rows, values, listed, places)?;
-        out.push_column(columns[n], &kept_rows[..count], &kept_values[..count])?;
+        let count = keep_listed(kept, rows, values, listed, table)?;
+        out.push_column(columns[n], &kept.rows[..count], &kept.values[..count])?;
     }
     Ok(())
 }
@@ -343,25 +376,42 @@ fn push_listed<S: Semiring>(
 /// Writes the entries of a column that are in listed rows to the fronts of two lists, and returns how many they are. The row
 /// of each is its place in the list of rows.
 fn keep_listed(
-    kept_rows: &mut Vec<u32>,
-    kept_values: &mut Vec<u64>,
+    kept: &mut KeptColumn,
     rows: &[u32],
     values: &[u64],
     listed: &[u32],
-    places: &[u32],
+    table: &RowTable,
 ) -> Result<usize, AllocError>
     requires count { length values.now ≡ length rows.now }
     requires rows { AllPairs (λ i j. i < j) rows.now }
-    requires inside { All (λ i. i < length places.now) rows.now }
-    requires ascending { AllPairs (λ i j. i < j) listed.now }
-    requires places { ArePlaces (length places.now) listed.now places.now }
-    ensures rows_room { IfOk result (λ n. n ≤ length kept_rows.new.items) }
-    ensures values_room { IfOk result (λ n. n ≤ length kept_values.new.items) }
-    ensures listed { IfOk result (λ n. IsListed listed.now rows.now values.now (take n kept_rows.new.items) (take n kept_values.new.items)) }
+    requires inside { All (λ i. i < length table.now.places.items) rows.now }
+    requires table { IsRowTable (length table.now.places.items) listed.now table.now }
+    ensures rows_room { IfOk result (λ n. n ≤ length kept.new.rows.items) }
+    ensures values_room { IfOk result (λ n. n ≤ length kept.new.values.items) }
+    ensures listed { IfOk result (λ n. IsListed listed.now rows.now values.now (take n kept.new.rows.items) (take n kept.new.values.items)) }
 {
-    make_room(kept_rows, 0, rows.len())?;
-    make_room(kept_values, 0, rows.len())?;
-    Ok(write_listed(kept_rows, kept_values, rows, values, listed, places))
+    make_room(&mut kept.rows, 0, rows.len())?;
+    make_room(&mut kept.values, 0, rows.len())?;
+    if table.ascending {
+        return Ok(write_listed(
+            &mut kept.rows,
+            &mut kept.values,
+            rows,
+            values,
+            listed,
+            &table.places,
+        ));
+    }
+    make_room(&mut kept.keys, 0, rows.len())?;
+    Ok(write_sorted(
+        &mut kept.rows,
+        &mut kept.values,
+        &mut kept.keys,
+        rows,
+        values,
+        listed,
+        &table.places,
+    ))
 }
 
 /// Lengthens a list, if need be, to this many items.
@@ -374,7 +424,7 @@ fn make_room<T: Copy>(list: &mut Vec<T>, item: T, count: usize) -> Result<(), Al
     Ok(())
 }
 
-/// The same, with room in the two lists.
+/// The same, with room in the two lists, of rows that ascend.
 #[inline(always)]
 fn write_listed(
     kept_rows: &mut Vec<u32>,

@@ -1,6 +1,6 @@
 //! Selections of GraphBLAS from blocks: entries by their place, values replaced, the diagonal, a part assigned, the Kronecker
-//! product, powers and complemented masks. [`compute`] makes any [`Selection`](cb_operations::Selection). Beside them rows and
-//! columns extracted by their numbers, a block updated under a mask, and products of transposes.
+//! product, powers and complemented masks. [`unary`] and [`binary`] make any [`Selection`](cb_operations::Selection). Beside them rows
+//! and columns extracted by their numbers, a block updated under a mask, and products of transposes.
 //!
 //! Each walks the columns that have entries, in order, so its cost is proportional to the entries, whatever the
 //! dimensions. A rule gives an entry its new value: a region of places, or a function of the value and the place. One walk
@@ -27,6 +27,7 @@ mod kronecker_products;
 mod powers;
 mod regions;
 mod selections;
+mod sorted_rows;
 mod turned_products;
 mod updates;
 
@@ -42,7 +43,7 @@ pub use diagonals::{diagonal, diagonal_matrix};
 pub use extracts::{extract, extract_between, extract_columns, extract_rows};
 pub use kronecker_products::kronecker;
 pub use powers::power;
-pub use selections::{SelectionFault, binary, compute, unary};
+pub use selections::{binary, unary};
 use std::alloc::{AllocError, Global};
 pub use turned_products::multiply_turned;
 pub use updates::{WriteBack, update};

@@ -1,72 +1,33 @@
 //! Panels of products: how their columns are divided; under a mask and outside it, two neighbours, one after the other, are
 //! the product.
-ghost use Rattle.std.specs.Prelude.{◌≡◌};
-ghost use Rattle.cb_matrix.specs.Values.{product_shape};
-
-use crate::operands::{Matrix, are_halves, random};
-use cb_masked::{multiply_masked, multiply_outside};
-use cb_matrix::{Entry, LIMIT};
+use crate::operands::{Matrix, is_computed, random};
+use cb_layout::PanelledMatrix;
+use cb_matrix::Entry;
+use cb_operations::{Computation, Operation};
 use cb_samples::{SampleFault, block, entries};
-use cb_shares::{ends_of, masked_panel, outside_panel};
-use std::alloc::{AllocError, Global};
+use cb_shares::ends_of;
+use std::alloc::Global;
 
-/// Whether two panels that meet at a column are the product under a mask.
-fn are_under(
-    alloc: Global,
-    left: &Matrix,
-    right: &Matrix,
-    mask: &Matrix,
-    column: u32,
-) -> Result<bool, AllocError>
-    requires agree { left.now.shape.cols ≡ right.now.shape.rows }
-    requires shape { mask.now.shape ≡ product_shape left.now right.now }
-{
-    let whole = multiply_masked(alloc, left, right, mask)?;
-    let front = masked_panel(alloc, left, right, mask, 0, column)?;
-    let back = masked_panel(alloc, left, right, mask, column, LIMIT)?;
-    are_halves(&whole, &front, &back)
-}
-
-/// Whether two panels that meet at a column are the product outside a mask.
-fn are_outside(
-    alloc: Global,
-    left: &Matrix,
-    right: &Matrix,
-    mask: &Matrix,
-    column: u32,
-) -> Result<bool, AllocError>
-    requires agree { left.now.shape.cols ≡ right.now.shape.rows }
-    requires shape { mask.now.shape ≡ product_shape left.now right.now }
-{
-    let whole = multiply_outside(alloc, left, right, mask)?;
-    let front = outside_panel(alloc, left, right, mask, 0, column)?;
-    let back = outside_panel(alloc, left, right, mask, column, LIMIT)?;
-    are_halves(&whole, &front, &back)
-}
-
-/// Whether both are so.
-fn are_both(
-    alloc: Global,
-    left: &Matrix,
-    right: &Matrix,
-    mask: &Matrix,
-    column: u32,
-) -> Result<bool, AllocError>
-    requires agree { left.now.shape.cols ≡ right.now.shape.rows }
-    requires shape { mask.now.shape ≡ product_shape left.now right.now }
-{
-    Ok(
-        are_under(alloc, left, right, mask, column)?
-            && are_outside(alloc, left, right, mask, column)?,
-    )
-}
-
-/// Whether it is so of random matrices.
+/// Whether two panels that meet at a column are the product of random matrices under a mask, and outside it.
 fn are_panels(alloc: Global, column: u32) -> Result<bool, SampleFault> {
     let left = random(alloc, 60, 6, 2, 7919)?;
     let right = random(alloc, 6, 9, 2, 104729)?;
     let mask = random(alloc, 60, 9, 3, 1299709)?;
-    Ok(are_both(alloc, &left, &right, &mask, column)?)
+    let a = PanelledMatrix::from_block(alloc, left.try_clone()?);
+    let b = PanelledMatrix::from_block(alloc, right.try_clone()?);
+    let c = PanelledMatrix::from_block(alloc, mask.try_clone()?);
+    let (operands, blocks) = ([&a, &b, &c], [&left, &right, &mask]);
+    let under = Computation::Operation(Operation::MultiplyMasked);
+    Ok(
+        is_computed(alloc, under, &operands, &blocks, column)?
+            && is_computed(
+                alloc,
+                Computation::MultiplyOutside,
+                &operands,
+                &blocks,
+                column,
+            )?,
+    )
 }
 
 #[test]

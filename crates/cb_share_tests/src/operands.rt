@@ -2,10 +2,14 @@
 ghost use Rattle.std.specs.Prelude.{◌≡◌, IfOk};
 
 use cb_dcsc::{Block, BlockFault};
-use cb_matrix::Entry;
+use cb_layout::PanelledMatrix;
+use cb_matrix::{Entry, LIMIT};
+use cb_operations::{Computation, ComputeFault};
 use cb_panels::Panels;
 use cb_samples::{SampleFault, block, entry};
 use cb_semirings::PlusTimes;
+use cb_serial::compute;
+use cb_shares::computed_columns;
 use std::alloc::{AllocError, Global};
 
 pub(crate) type Matrix = Block<PlusTimes>;
@@ -89,4 +93,32 @@ pub(crate) fn are_halves(
     let rest = back.entries()?;
     found.extend_from_slice(&rest)?;
     Ok(found.as_slice() == wanted.as_slice())
+}
+
+/// A result that isn't refused.
+fn made(computed: Result<Matrix, ComputeFault>) -> Result<Matrix, SampleFault> {
+    match computed {
+        Ok(made) => Ok(made),
+        Err(ComputeFault::Memory) => Err(SampleFault::Block(BlockFault::Memory)),
+        Err(ComputeFault::Refused(_refusal)) => Err(SampleFault::Shape),
+    }
+}
+
+/// Whether two ranges of columns that meet at one, and the range of all, are what is computed of the same matrices as blocks.
+pub(crate) fn is_computed(
+    alloc: Global,
+    computation: Computation,
+    operands: &[&PanelledMatrix<PlusTimes>],
+    blocks: &[&Matrix],
+    column: u32,
+) -> Result<bool, SampleFault> {
+    let count = computation.operand_count();
+    if operands.len() != count || blocks.len() != count {
+        return Ok(false);
+    }
+    let wanted = made(compute(alloc, computation, blocks))?;
+    let all = made(computed_columns(alloc, computation, operands, 0, LIMIT))?;
+    let front = made(computed_columns(alloc, computation, operands, 0, column))?;
+    let back = made(computed_columns(alloc, computation, operands, column, LIMIT))?;
+    Ok(are_same(&all, &wanted) && are_halves(&wanted, &front, &back)?)
 }

@@ -1,16 +1,13 @@
 //! Products in panels, beside the product by one thread.
-ghost use Rattle.std.specs.Prelude.{◌≡◌, IfOk, IsTrue, length};
-ghost use Rattle.cb_operations.specs.OperationAnswers as answers;
-ghost use Rattle.cb_operations.specs.Operands.{lent_in};
+ghost use Rattle.std.specs.Prelude.{◌≡◌, IfOk};
 
 use crate::operands::{are_same, is_right_or_refused, panels, scattered};
 use cb_dcsc::Block;
 use cb_layout::PanelledMatrix;
 use cb_matrix::{LIMIT, Test};
-use cb_operations::{Diagonal, Function, Operation, Region, Selection};
-use cb_panels::{multiply, multiply_panels, operate, select};
+use cb_operations::{Computation, ComputeFault, Diagonal, Function, Operation, Region, Selection};
+use cb_panels::{compute, multiply, multiply_panels};
 use cb_samples::{SampleFault, block};
-use cb_selections::SelectionFault;
 use cb_semirings::PlusTimes;
 use std::alloc::{AllocError, Global};
 use std::thread::Threads;
@@ -148,65 +145,6 @@ fn a_refused_product_in_panels_answers_memory(rt: HostRuntime) {
     assert!(&rt; is_right_or_refused(made));
 }
 
-/// Whether an operation can be made of these matrices.
-fn can_be_made(operation: Operation, operands: &[&Panelled]) -> bool
-    ensures count { IsTrue result → (length operands.now ≡ answers.operand_count_of operation) }
-    ensures agree { IsTrue result → answers.Agree operation (answers.shapes_in (lent_in operands.now)) }
-{
-    if operands.len() != operation.operand_count() {
-        return false;
-    }
-    let shape = match operands {
-        [a] => operation.shape_of(&[a.shape()]),
-        [a, b] => operation.shape_of(&[a.shape(), b.shape()]),
-        [a, b, mask] => operation.shape_of(&[a.shape(), b.shape(), mask.shape()]),
-        _ => None,
-    };
-    shape.is_some()
-}
-
-/// Whether an operation by so many threads is that by one thread.
-fn is_same_operation<R: Threads + Sync>(
-    rt: &R,
-    alloc: Global,
-    most: u32,
-    operation: Operation,
-    operands: &[&Panelled],
-) -> Result<bool, AllocError> {
-    if !can_be_made(operation, operands) {
-        return Ok(false);
-    }
-    let found = operate(rt, alloc, panels(most), operation, operands)?;
-    let wanted = operate(rt, alloc, panels(1), operation, operands)?;
-    Ok(are_same(&found.into_block()?, &wanted.into_block()?))
-}
-
-/// Whether each of some operations is.
-fn are_same_operations<R: Threads + Sync>(
-    rt: &R,
-    alloc: Global,
-    most: u32,
-    operations: &[Operation],
-    operands: &[&Panelled],
-) -> Result<bool, AllocError> {
-    for operation in operations {
-        if !is_same_operation(rt, alloc, most, *operation, operands)? {
-            return Ok(false);
-        }
-    }
-    Ok(true)
-}
-
-const OF_ONE: &[Operation] = &[
-    Operation::Prune(Test::Below(30)),
-    Operation::ColumnSums,
-    Operation::Transpose,
-];
-
-const OF_TWO: &[Operation] = &[Operation::Add, Operation::Times, Operation::Multiply];
-
-const OF_THREE: &[Operation] = &[Operation::MultiplyMasked];
-
 /// A product of random factors, in so many panels: square, without entries in the last columns.
 fn square<R: Threads + Sync>(
     rt: &R,
@@ -218,18 +156,18 @@ fn square<R: Threads + Sync>(
     Ok(multiply_panels(rt, alloc, panels(most), &left, &right)?)
 }
 
-/// What a selection made, None where it was refused.
+/// What was computed, None where it was refused.
 fn unless_refused(
-    made: Result<Panelled, SelectionFault>,
+    made: Result<Panelled, ComputeFault>,
 ) -> Result<Option<Block<PlusTimes>>, AllocError> {
     match made {
         Ok(made) => Ok(Some(made.into_block()?)),
-        Err(SelectionFault::Memory) => Err(AllocError),
-        Err(SelectionFault::Refused(_refusal)) => Ok(None),
+        Err(ComputeFault::Memory) => Err(AllocError),
+        Err(ComputeFault::Refused(_refusal)) => Ok(None),
     }
 }
 
-/// Whether what two selections made, or that they were refused, is the same.
+/// Whether two results, or that they were refused, are the same.
 fn is_same_made(found: Option<Block<PlusTimes>>, wanted: Option<Block<PlusTimes>>) -> bool {
     match (&found, &wanted) {
         (Some(found), Some(wanted)) => are_same(found, wanted),
@@ -238,98 +176,84 @@ fn is_same_made(found: Option<Block<PlusTimes>>, wanted: Option<Block<PlusTimes>
     }
 }
 
-/// Whether a selection by so many threads, or its refusal, is that by one thread.
-fn is_same_selection<R: Threads + Sync>(
+/// Whether what so many threads compute, or its refusal, is that of one thread.
+fn is_same_computation<R: Threads + Sync>(
     rt: &R,
     alloc: Global,
     most: u32,
-    selection: Selection,
+    computation: Computation,
     operands: &[&Panelled],
 ) -> Result<bool, AllocError> {
-    if operands.len() != selection.operand_count() {
+    if operands.len() != computation.operand_count() {
         return Ok(false);
     }
-    let found = unless_refused(select(rt, alloc, panels(most), selection, operands))?;
-    let wanted = unless_refused(select(rt, alloc, panels(1), selection, operands))?;
+    let found = unless_refused(compute(rt, alloc, panels(most), computation, operands))?;
+    let wanted = unless_refused(compute(rt, alloc, panels(1), computation, operands))?;
     Ok(is_same_made(found, wanted))
 }
 
-/// Whether each of some selections is.
-fn are_same_selections<R: Threads + Sync>(
+/// Whether it is so of each of some computations.
+fn are_same_computations<R: Threads + Sync>(
     rt: &R,
     alloc: Global,
     most: u32,
-    selections: &[Selection],
+    computations: &[Computation],
     operands: &[&Panelled],
 ) -> Result<bool, AllocError> {
-    for selection in selections {
-        if !is_same_selection(rt, alloc, most, *selection, operands)? {
+    for computation in computations {
+        if !is_same_computation(rt, alloc, most, *computation, operands)? {
             return Ok(false);
         }
     }
     Ok(true)
 }
 
-fn from_one() -> [Selection; 5] {
+fn of_one() -> [Computation; 8] {
     [
-        Selection::Select(Region::Lower(Diagonal { row: 0, column: 2 })),
-        Selection::Apply(Function::Sum(5)),
-        Selection::Apply(Function::Column),
-        Selection::Diagonal,
-        Selection::DiagonalMatrix,
+        Computation::Operation(Operation::Prune(Test::Below(30))),
+        Computation::Operation(Operation::ColumnSums),
+        Computation::Operation(Operation::Transpose),
+        Computation::Selection(Selection::Select(Region::Lower(Diagonal { row: 0, column: 2 }))),
+        Computation::Selection(Selection::Apply(Function::Sum(5))),
+        Computation::Selection(Selection::Apply(Function::Column)),
+        Computation::Selection(Selection::Diagonal),
+        Computation::Selection(Selection::DiagonalMatrix),
     ]
 }
 
-fn from_two() -> [Selection; 3] {
+fn of_two() -> [Computation; 6] {
     [
-        Selection::Exclude,
-        Selection::Kronecker,
-        Selection::Assign((1, 1)),
+        Computation::Operation(Operation::Add),
+        Computation::Operation(Operation::Times),
+        Computation::Operation(Operation::Multiply),
+        Computation::Selection(Selection::Exclude),
+        Computation::Selection(Selection::Kronecker),
+        Computation::Selection(Selection::Assign((1, 1))),
     ]
 }
 
-/// Whether all operations on two matrices by so many threads are those by one thread.
-fn are_operations<R: Threads + Sync>(
-    rt: &R,
-    alloc: Global,
-    most: u32,
-    a: &Panelled,
-    b: &Panelled,
-) -> Result<bool, AllocError> {
-    Ok(
-        are_same_operations(rt, alloc, most, OF_ONE, &[a])?
-            && are_same_operations(rt, alloc, most, OF_ONE, &[b])?
-            && are_same_operations(rt, alloc, most, OF_TWO, &[a, b])?
-            && are_same_operations(rt, alloc, most, OF_THREE, &[a, b, a])?,
-    )
+fn of_three() -> [Computation; 2] {
+    [
+        Computation::Operation(Operation::MultiplyMasked),
+        Computation::MultiplyOutside,
+    ]
 }
 
-/// Whether all selections from them are.
-fn are_selections<R: Threads + Sync>(
-    rt: &R,
-    alloc: Global,
-    most: u32,
-    a: &Panelled,
-    b: &Panelled,
-) -> Result<bool, AllocError> {
-    let (one, two) = (from_one(), from_two());
-    Ok(
-        are_same_selections(rt, alloc, most, &one, &[a])?
-            && are_same_selections(rt, alloc, most, &one, &[b])?
-            && are_same_selections(rt, alloc, most, &two, &[a, b])?,
-    )
-}
-
-/// Whether all are, of a matrix in one panel and one in three. Two selections are refused: neither is a column, as a diagonal
-/// matrix takes, and neither is a part of the other at row 1 of column 1.
+/// Whether all computations on two matrices, one in one panel and one in three, are the same by so many threads. Two are refused:
+/// neither matrix is a column, as a diagonal matrix takes, and neither is a part of the other at row 1 of column 1.
 fn are_the_same<R: Threads + Sync>(rt: &R, alloc: Global, most: u32) -> Result<bool, SampleFault> {
     let a = square(rt, alloc, 1, 7919)?;
     let b = square(rt, alloc, 3, 104729)?;
-    Ok(are_operations(rt, alloc, most, &a, &b)? && are_selections(rt, alloc, most, &a, &b)?)
+    Ok(
+        are_same_computations(rt, alloc, most, &of_one(), &[&a])?
+            && are_same_computations(rt, alloc, most, &of_one(), &[&b])?
+            && are_same_computations(rt, alloc, most, &of_two(), &[&a, &b])?
+            && are_same_computations(rt, alloc, most, &of_three(), &[&a, &b, &a])?,
+    )
 }
 
 #[test]
-fn operations_and_selections_by_threads_are_the_same(rt: HostRuntime) {
+fn computations_by_threads_are_the_same(rt: HostRuntime) {
     for most in [0, 2, 3, 5, 64] {
         assert!(&rt;
             are_the_same(&rt, rt.alloc(), most) == Ok(true),
@@ -340,7 +264,7 @@ fn operations_and_selections_by_threads_are_the_same(rt: HostRuntime) {
 
 /// Passes whichever single allocation is refused (`rt try --test --fail-alloc N`, for each N in turn).
 #[test]
-fn refused_operations_and_selections_by_threads_answer_memory(rt: HostRuntime) {
+fn refused_computations_by_threads_answer_memory(rt: HostRuntime) {
     let made = are_the_same(&rt, rt.alloc(), 3);
     assert!(&rt; is_right_or_refused(made));
 }

@@ -1,19 +1,18 @@
 //! Columns of the result of an update of a matrix in several panels, of a Kronecker product, and of rows and columns by their
-//! numbers: those before a column and those from it on, one after the other, are the result. Those of operations and other
-//! selections are tested with the threads that make them (`panels`).
+//! numbers: those before a column and those from it on, one after the other, are the result. Those of all else that is computed
+//! are tested with the threads that make them (`panels`).
 ghost use Rattle.std.specs.Prelude.{◌<◌, ◌≤◌, length, All, IsTrue, option_copied};
 ghost use Rattle.cb_selections.specs.Extracted.{AreBelow, AreFew};
 
-use crate::operands::{Matrix, are_halves, panels, random};
-use cb_dcsc::BlockFault;
+use crate::operands::{Matrix, are_halves, is_computed, panels, random};
 use cb_layout::PanelledMatrix;
 use cb_matrix::LIMIT;
-use cb_operations::Selection;
+use cb_operations::{Computation, Selection};
 use cb_panels::multiply_panels;
 use cb_samples::SampleFault;
-use cb_selections::{SelectionFault, WriteBack, compute, extract, update};
+use cb_selections::{WriteBack, extract, update};
 use cb_semirings::PlusTimes;
-use cb_shares::{ends_by_entries, extract_columns, selection_columns, total, update_columns};
+use cb_shares::{ends_by_entries, extract_columns, total, update_columns};
 use std::alloc::{AllocError, Global};
 use std::thread::Threads;
 
@@ -42,30 +41,6 @@ fn is_updated(
     let front = update_columns(alloc, how, matrix, matrix, Some(matrix), 0, column)?;
     let back = update_columns(alloc, how, matrix, matrix, Some(matrix), column, LIMIT)?;
     are_halves(&wanted, &front, &back)
-}
-
-/// A selection that isn't refused.
-fn made(selection: Result<Matrix, SelectionFault>) -> Result<Matrix, SampleFault> {
-    match selection {
-        Ok(made) => Ok(made),
-        Err(SelectionFault::Memory) => Err(SampleFault::Block(BlockFault::Memory)),
-        Err(SelectionFault::Refused(_refusal)) => Err(SampleFault::Shape),
-    }
-}
-
-/// Whether the Kronecker product with itself is.
-fn is_kronecker(
-    alloc: Global,
-    matrix: &Panelled,
-    whole: &Matrix,
-    column: u32,
-) -> Result<bool, SampleFault> {
-    let kronecker = Selection::Kronecker;
-    let operands = [matrix, matrix];
-    let wanted = made(compute(alloc, kronecker, &[whole, whole]))?;
-    let front = made(selection_columns(alloc, kronecker, &operands, 0, column))?;
-    let back = made(selection_columns(alloc, kronecker, &operands, column, LIMIT))?;
-    Ok(are_halves(&wanted, &front, &back)?)
 }
 
 /// Whether the numbers are below a bound, and few.
@@ -136,9 +111,11 @@ fn are_columns(
     whole: &Matrix,
     column: u32,
 ) -> Result<bool, SampleFault> {
+    let kronecker = Computation::Selection(Selection::Kronecker);
+    let wide = column.saturating_mul(7);
     Ok(
         is_updated(alloc, matrix, whole, column)?
-            && is_kronecker(alloc, matrix, whole, column.saturating_mul(7))?
+            && is_computed(alloc, kronecker, &[matrix, matrix], &[whole, whole], wide)?
             && are_extracted(alloc, matrix, ROWS, COLS, column)?
             && are_extracted(alloc, matrix, MIXED, COLS, column)?,
     )

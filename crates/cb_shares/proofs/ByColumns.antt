@@ -14,14 +14,12 @@ use Rattle.cb_operations.specs.declared.functions.Function.{Function}
 use Rattle.cb_operations.specs.declared.functions.Function.TheVariants.{Constant, Sum, LeftProduct, RightProduct, Row, Column}
 use Rattle.cb_operations.specs.Functions.{TakesValues, function_value, operand_of}
 use Rattle.cb_operations.specs.Regions.{is_in}
-use Rattle.cb_operations.specs.declared.operations.Operation.{Operation}
-use Rattle.cb_operations.specs.declared.operations.Operation.TheVariants.{Multiply, MultiplyMasked, MultiplyVector, Transpose, RowSums, ColumnSums, Add, Times, Prune}
-use Rattle.cb_operations.specs.OperationAnswers.{answer_of, operand_count_of, shapes_in}
-use Rattle.cb_operations.specs.declared.selections.Selection.{Selection}
-use Rattle.cb_operations.specs.declared.selections.Selection.TheVariants.{Select, Apply, Diagonal, DiagonalMatrix, Power, Part, Kronecker, Assign, Exclude}
-use Rattle.cb_operations.specs.SelectionAnswers.{answer_of as selection_of}
-use Rattle.cb_operations.specs.SelectionAnswers.{operand_count_of as selection_count}
-use Rattle.cb_operations.specs.SelectionAnswers.{Suits}
+use Rattle.cb_operations.specs.declared.operations.Operation.TheVariants.{MultiplyMasked, ColumnSums, Add, Times, Prune}
+use Rattle.cb_operations.specs.declared.selections.Selection.TheVariants.{Select, Apply, Exclude}
+use Rattle.cb_operations.specs.declared.computations.Computation.{Computation}
+use Rattle.cb_operations.specs.declared.computations.Computation.TheVariants.{Operation, Selection, MultiplyOutside}
+use Rattle.cb_operations.specs.Computations.{operand_count_of, Suits, answer_of}
+use Rattle.cb_operations.specs.OperationAnswers.{shapes_in}
 use Rattle.cb_matrix.specs.Passing.{passes}
 use Rattle.cb_operations.specs.Selected.{selected, applied, excluded}
 use Rattle.cb_elementwise.specs.RuleLaws.{function_value-value}
@@ -30,7 +28,7 @@ use Rattle.cb_product.proofs.OnlyColumns.{only_value}
 use Rattle.cb_selections.specs.declared.updates.WriteBack.{WriteBack}
 use Rattle.cb_selections.specs.Updates.{updated, allows, written}
 use Rattle.cb_shares.proofs.ColumnValues.{only_none, only_of, only_product, product_matrix}
-use Rattle.cb_shares.specs.ByColumns.{IsByColumns, IsSelectionByColumns}
+use Rattle.cb_shares.specs.ByColumns.{IsByColumns}
 
 module _ (s : Arithmetic) (laws : IsSemiring s) (cs : List ℕ) where
   -- an operation on three matrices, which has zero where none has an entry
@@ -132,39 +130,34 @@ module _ (s : Arithmetic) (laws : IsSemiring s) (cs : List ℕ) where
           ∙ by_columns p.shape (λ i j x y z. cond (not (y == s.zero)) x s.zero) p m m (λ i j. both_zero (not (s.zero == s.zero)))
           (λ i j _ _. either (not (at s m i j == s.zero)) (at s p i j) s.zero (value p (product_matrix s laws a b is_a is_b) i j) laws.zero_value)
 
-  -- ---- by the value of an operation
-  pub one_columns : (a : Sparse) → IsMatrix s a → (operation : Operation) → operand_count_of operation ≡ 1 → IsByColumns operation
-      → answer_of operation s (only_columns cs a ∷ []) ≡ only_columns cs (answer_of operation s (a ∷ []))
-  one_columns a is ColumnSums count by = summed_columns a is
-  one_columns a is (Prune test) count by = pruned_columns a is (passes test)
-  one_columns a is Add count by = let c : 2 ≡ 1 = count in absurd (omega arith)
-  one_columns a is Times count by = let c : 2 ≡ 1 = count in absurd (omega arith)
-  one_columns a is _ count by = absurd by
+  -- ---- by the value of a computation
+  pub one_columns : (a : Sparse) → IsMatrix s a → (computation : Computation) → operand_count_of computation ≡ 1 → IsByColumns computation → Suits computation s (shapes_in (a ∷ []))
+      → answer_of computation s (only_columns cs a ∷ []) ≡ only_columns cs (answer_of computation s (a ∷ []))
+  one_columns a is (Operation ColumnSums) count by suits = summed_columns a is
+  one_columns a is (Operation (Prune test)) count by suits = pruned_columns a is (passes test)
+  one_columns a is (Operation Add) count by suits = let c : 2 ≡ 1 = count in absurd (omega (arith, c))
+  one_columns a is (Operation Times) count by suits = let c : 2 ≡ 1 = count in absurd (omega (arith, c))
+  one_columns a is (Selection (Select region)) count by suits = selected_columns a is region
+  one_columns a is (Selection (Apply function)) count by suits = applied_columns a is function suits
+  one_columns a is (Selection Exclude) count by suits = let c : 2 ≡ 1 = count in absurd (omega (arith, c))
+  one_columns a is _ count by suits = absurd by
 
-  pub two_columns : (a : Sparse) → IsMatrix s a → (b : Sparse) → IsMatrix s b → (operation : Operation) → operand_count_of operation ≡ 2 → IsByColumns operation
-      → answer_of operation s (only_columns cs a ∷ only_columns cs b ∷ []) ≡ only_columns cs (answer_of operation s (a ∷ b ∷ []))
-  two_columns a is b is_b Add count by = sum_columns a is b is_b
-  two_columns a is b is_b Times count by = times_columns a is b is_b
-  two_columns a is b is_b ColumnSums count by = let c : 1 ≡ 2 = count in absurd (omega arith)
-  two_columns a is b is_b (Prune test) count by = let c : 1 ≡ 2 = count in absurd (omega arith)
+  pub two_columns : (a : Sparse) → IsMatrix s a → (b : Sparse) → IsMatrix s b → (computation : Computation) → operand_count_of computation ≡ 2 → IsByColumns computation
+      → answer_of computation s (only_columns cs a ∷ only_columns cs b ∷ []) ≡ only_columns cs (answer_of computation s (a ∷ b ∷ []))
+  two_columns a is b is_b (Operation Add) count by = sum_columns a is b is_b
+  two_columns a is b is_b (Operation Times) count by = times_columns a is b is_b
+  two_columns a is b is_b (Operation ColumnSums) count by = let c : 1 ≡ 2 = count in absurd (omega (arith, c))
+  two_columns a is b is_b (Operation (Prune test)) count by = let c : 1 ≡ 2 = count in absurd (omega (arith, c))
+  two_columns a is b is_b (Selection Exclude) count by = excluded_columns a is b is_b
+  two_columns a is b is_b (Selection (Select region)) count by = let c : 1 ≡ 2 = count in absurd (omega (arith, c))
+  two_columns a is b is_b (Selection (Apply function)) count by = let c : 1 ≡ 2 = count in absurd (omega (arith, c))
   two_columns a is b is_b _ count by = absurd by
 
-  pub three_columns : (a : Sparse) → IsMatrix s a → (b : Sparse) → IsMatrix s b → (m : Sparse) → (operation : Operation) → operand_count_of operation ≡ 3
-      → answer_of operation s (a ∷ only_columns cs b ∷ only_columns cs m ∷ []) ≡ only_columns cs (answer_of operation s (a ∷ b ∷ m ∷ []))
-  three_columns a is b is_b m MultiplyMasked count = masked_columns a is b is_b m
-  three_columns a is b is_b m _ count = absurd (omega (arith, count))
-
-  -- ---- by the value of a selection
-  pub one_selected : (a : Sparse) → IsMatrix s a → (selection : Selection) → selection_count selection ≡ 1 → IsSelectionByColumns selection → Suits selection s (shapes_in (a ∷ []))
-      → selection_of selection s (only_columns cs a ∷ []) ≡ only_columns cs (selection_of selection s (a ∷ []))
-  one_selected a is (Select region) count by suits = selected_columns a is region
-  one_selected a is (Apply function) count by suits = applied_columns a is function suits
-  one_selected a is Exclude count by suits = let c : 2 ≡ 1 = count in absurd (omega arith)
-  one_selected a is _ count by suits = absurd by
-
-  pub two_selected : (a : Sparse) → IsMatrix s a → (b : Sparse) → IsMatrix s b → (selection : Selection) → selection_count selection ≡ 2 → IsSelectionByColumns selection
-      → selection_of selection s (only_columns cs a ∷ only_columns cs b ∷ []) ≡ only_columns cs (selection_of selection s (a ∷ b ∷ []))
-  two_selected a is b is_b Exclude count by = excluded_columns a is b is_b
-  two_selected a is b is_b (Select region) count by = let c : 1 ≡ 2 = count in absurd (omega arith)
-  two_selected a is b is_b (Apply function) count by = let c : 1 ≡ 2 = count in absurd (omega arith)
-  two_selected a is b is_b _ count by = absurd by
+  pub three_columns : (a : Sparse) → IsMatrix s a → (b : Sparse) → IsMatrix s b → (m : Sparse) → IsMatrix s m → (computation : Computation) → operand_count_of computation ≡ 3
+      → answer_of computation s (a ∷ only_columns cs b ∷ only_columns cs m ∷ []) ≡ only_columns cs (answer_of computation s (a ∷ b ∷ m ∷ []))
+  three_columns a is b is_b m is_m (Operation MultiplyMasked) count = masked_columns a is b is_b m
+  three_columns a is b is_b m is_m MultiplyOutside count =
+      ap (λ (x : Sparse). excluded s x (only_columns cs m)) (only_product s laws a b is is_b cs)
+      ∙ excluded_columns (product s a b) (product_matrix s laws a b is is_b) m is_m
+  three_columns a is b is_b m is_m (Selection Exclude) count = let c : 2 ≡ 3 = count in absurd (omega (arith, c))
+  three_columns a is b is_b m is_m _ count = absurd (omega (arith, count))

@@ -1,42 +1,20 @@
 -- Where the columns of a range are among those that have entries.
-use Rattle.std.proofs.Common.{◌≡◌, ℕ, ◌+◌, ◌-◌, ◌<◌, ◌≤◌, true, Err, List, length, get_or, drop, ap, ◌∙◌, subst, ⊎_elim, arith, length-drop}
+use Rattle.std.proofs.Common.{◌≡◌, ℕ, ◌+◌, ◌-◌, ◌<◌, ◌≤◌, true, List, length, get_or, drop, ap, ◌∙◌, subst, ⊎_elim, arith, length-drop}
 use Rattle.std.specs.Prelude.{◌↔◌, All, AllPairs, Contains, IsTrue, Some, nat_lt, slice_get, slice_range}
 use Rattle.std.proofs.lemmas.Option.{slice_get_within, get_or_from_slice_get}
-use Rattle.std.specs.Ordering.{nat_cmp}
-use Rattle.std.specs.declared.cmp.Ordering.TheVariants.{Equal}
-use Rattle.std.specs.List.Sorted.{IsBinarySearchResult}
 use Rattle.std.proofs.lemmas.Bool.{cases_lt, ltb-true, lt-ltb}
 use Rattle.std.proofs.lemmas.List.{length-take-le, get_or-take, get_or-drop, get_or_default}
-use Rattle.std.proofs.lemmas.List.Sorted.{searched}
 use Rattle.std.proofs.lemmas.List.Elements.{All-weaker, Contains-get_or}
 use Rattle.cb_matrix.specs.Sparse.{Sparse}
-use Rattle.cb_dcsc.proofs.Held.{same_number}
 use Rattle.cb_product.specs.InColumns.{is_among, only_columns}
 use Rattle.cb_product.proofs.OnlyColumns.{among_from, among_holds}
 use Rattle.cb_shares.specs.Shares.{columns_from}
 use Rattle.cb_shares.proofs.Ranges.{range_holds, range_has, same_answer, same_columns}
 
--- ---- a binary search
+-- ---- numbers that ascend
 -- numbers that ascend rise
 pub rising : (xs : List ℕ) → AllPairs (λ i j. i < j) xs → (i j : ℕ) → i ≤ j → j < length xs → get_or xs i 0 ≤ get_or xs j 0
 rising xs up i j l m = ⊎_elim (λ (k : i < j). let h : get_or xs i 0 < get_or xs j 0 = up i j 0 k m in omega arith) (λ (k : j ≤ i). let e : i ≡ j = omega arith in rw e (omega arith)) (cases_lt i j)
-
-module _ (xs : List ℕ) (x n : ℕ) (up : AllPairs (λ i j. i < j) xs) where
-  -- if the bound is found, the numbers before it are below
-  pub found_below : n < length xs → nat_cmp (get_or xs n 0) x ≡ Equal → (k : ℕ) → k < n → get_or xs k 0 < x
-  found_below l h k m = let e = same_number (get_or xs n 0) x h in let less : get_or xs k 0 < get_or xs n 0 = up k n 0 m l in omega arith
-
-  -- and those from it on are not
-  pub found_from : n < length xs → nat_cmp (get_or xs n 0) x ≡ Equal → (k : ℕ) → n ≤ k → k < length xs → x ≤ get_or xs k 0
-  found_from l h k m b = let e = same_number (get_or xs n 0) x h in let more = rising xs up n k m b in omega arith
-
-  -- if it isn't found, the numbers before its place are below
-  pub missed_below : IsBinarySearchResult (λ y. nat_cmp y x) xs (Err n) → (k : ℕ) → k < n → get_or xs k 0 < x
-  missed_below h k m = (searched xs x (Err n) h (rising xs up)).1 k m
-
-  -- and those from there on are not
-  pub missed_from : IsBinarySearchResult (λ y. nat_cmp y x) xs (Err n) → (k : ℕ) → n ≤ k → k < length xs → x ≤ get_or xs k 0
-  missed_from h k m b = let more = (searched xs x (Err n) h (rising xs up)).2 k m b in omega arith
 
 -- ---- the columns of a range
 module _ (xs : List ℕ) (first end low high : ℕ) (l : low ≤ high) (m : high ≤ length xs) (before : (k : ℕ) → k < low → get_or xs k 0 < first)

@@ -16,7 +16,7 @@ use Rattle.cb_matrix.proofs.Pairs.{AllPairs-front, AllPairs-drop}
 use Rattle.cb_matrix.proofs.Totals.{add_mul-zero, add_zero, total-add, total-same, total-single, total-zero, value_at-value}
 use Rattle.cb_dcsc.proofs.Ranges.{no_range, range_both}
 use Rattle.cb_operations.specs.declared.operations.Operation.{Operation}
-use Rattle.cb_operations.specs.declared.operations.Operation.TheVariants.{Multiply, MultiplyMasked, MultiplyVector, Transpose, RowSums, ColumnSums, Add, Times, Prune}
+use Rattle.cb_operations.specs.declared.operations.Operation.TheVariants.{MultiplyVector, RowSums}
 use Rattle.cb_operations.specs.OperationAnswers.{operand_count_of, Agree, answer_of, matrix_at, shapes_in}
 use Rattle.cb_product.specs.DenseSums.{AddsToSums}
 use Rattle.cb_product.proofs.OnlyColumns.{only_matrix}

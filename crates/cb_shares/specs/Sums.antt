@@ -4,8 +4,8 @@ use Rattle.std.specs.Prelude.{◌≡◌, ℕ, ◌<◌, ◌≤◌, List, [], ◌�
 use Rattle.cb_semirings.specs.Arithmetic.{Arithmetic, IsValue}
 use Rattle.cb_matrix.specs.Sparse.{Sparse, IsMatrix, at}
 use Rattle.cb_operations.specs.declared.operations.Operation.{Operation}
-use Rattle.cb_operations.specs.declared.operations.Operation.TheVariants.{Multiply, MultiplyMasked, MultiplyVector, Transpose}
-use Rattle.cb_operations.specs.declared.operations.Operation.TheVariants.{RowSums, ColumnSums, Add, Times, Prune}
+use Rattle.cb_operations.specs.declared.operations.Operation.TheVariants.{MultiplyVector}
+use Rattle.cb_operations.specs.declared.operations.Operation.TheVariants.{RowSums}
 use Rattle.cb_operations.specs.OperationAnswers.{operand_count_of, Agree, answer_of, matrix_at, shapes_in}
 use Rattle.cb_reshape.specs.Sums.{matrix_total}
 use Rattle.cb_shares.specs.Shares.{panel}

@@ -1,16 +1,13 @@
 //! Some columns of a matrix, as an operand for a thread that makes these columns of the answer.
-ghost use Rattle.std.specs.Prelude.{◌≡◌, ◌≤◌, length, All, IfOk, OnOk};
+ghost use Rattle.std.specs.Prelude.{◌≡◌, ◌≤◌, length, All, IfOk, IfSome, OnOk};
 ghost use Rattle.cb_matrix.specs.Sparse.{IsMatrix};
-ghost use Rattle.cb_matrix.specs.Values.{empty_matrix};
 ghost use Rattle.cb_dcsc.specs.Columns.{columns_with_entries, with_entries};
 ghost use Rattle.cb_layout.specs.Panels.{entries_of_panels, whole_of};
 ghost use Rattle.cb_masked.specs.SomeColumns.{only_places};
 ghost use Rattle.cb_shares.specs.Shares.{columns_from, panel, among_entries};
 
-use crate::first_from;
-use cb_dcsc::Block;
+use cb_dcsc::{Block, first_from};
 use cb_layout::{PanelledMatrix, Whole};
-use cb_masked::entries_between;
 use cb_semirings::Semiring;
 use std::alloc::{AllocError, Global};
 
@@ -31,9 +28,20 @@ pub fn columns_between<'a, S: Semiring>(
     if others.is_empty() {
         return block_columns(alloc, front, first, end);
     }
+    if first == 0 && end >= matrix.shape().cols() {
+        return matrix.whole();
+    }
     let mut made = copied_columns(alloc, front, first, end)?;
     append_columns(alloc, &mut made, others, first, end)?;
     Ok(Whole::Made(made))
+}
+
+/// The only panel of a matrix, which is the whole matrix then, or `None` if it has several.
+pub(crate) fn only_panel<S: Semiring>(matrix: &PanelledMatrix<S>) -> Option<&Block<S>>
+    ensures { IfSome result (λ block. block.now ≡ matrix.now) }
+{
+    let (front, others) = matrix.panels();
+    if others.is_empty() { Some(front) } else { None }
 }
 
 /// The same of a block.
@@ -49,7 +57,7 @@ fn block_columns<'a, S: Semiring>(
     if low == 0 && high == block.columns() {
         return Ok(Whole::Lent(block));
     }
-    Ok(Whole::Made(columns_at(alloc, block, low, high)?))
+    Ok(Whole::Made(copied_columns(alloc, block, first, end)?))
 }
 
 /// The same columns of a block that isn't needed any more: the block itself, without a copy, if it has entries in no other.
@@ -65,7 +73,7 @@ pub(crate) fn only_between<S: Semiring>(
     if low == 0 && high == block.columns() {
         return Ok(block);
     }
-    columns_at(alloc, &block, low, high)
+    copied_columns(alloc, &block, first, end)
 }
 
 /// The place of the first of these columns among those that have entries, and the place after the last.
@@ -89,8 +97,12 @@ fn copied_columns<S: Semiring>(
 ) -> Result<Block<S>, AllocError>
     ensures { IfOk result (λ made. made ≡ panel block.now first end) }
 {
-    let (low, high) = places_between(block, first, end);
-    columns_at(alloc, block, low, high)
+    let shape = block.shape();
+    let end = end.min(shape.cols());
+    let first = first.min(end);
+    let mut made = Block::empty(alloc, shape);
+    made.append_columns(block, (first, end), (0, first))?;
+    Ok(made)
 }
 
 /// Appends the columns of panels, one panel after the other, to a block.
@@ -108,46 +120,6 @@ fn append_columns<S: Semiring>(
     for panel in panels {
         let mut more = copied_columns(alloc, panel, first, end)?;
         made.append(&mut more)?;
-    }
-    Ok(())
-}
-
-/// The columns of a block from one place up to another among those that have entries, in a block of the whole shape.
-fn columns_at<S: Semiring>(
-    alloc: Global,
-    block: &Block<S>,
-    low: usize,
-    high: usize,
-) -> Result<Block<S>, AllocError>
-    requires order { low ≤ high }
-    requires within { high ≤ length (columns_with_entries block.now.entries) }
-    ensures { IfOk result (λ made. made ≡ only_places low high block.now) }
-{
-    let mut made = Block::empty(alloc, block.shape());
-    made.reserve(entries_between(block, low, high))?;
-    push_places(&mut made, block, low, high)?;
-    Ok(made)
-}
-
-/// Stores these columns in an empty block.
-fn push_places<S: Semiring>(
-    made: &mut Block<S>,
-    block: &Block<S>,
-    low: usize,
-    high: usize,
-) -> Result<(), AllocError>
-    requires matrix { IsMatrix S.arithmetic block.now }
-    requires made_matrix { IsMatrix S.arithmetic made.old }
-    requires empty { made.old ≡ empty_matrix block.now.shape }
-    requires order { low ≤ high }
-    requires within { high ≤ length (columns_with_entries block.now.entries) }
-    ensures { OnOk result (made.new ≡ only_places low high block.now) }
-{
-    let all = block.column_numbers();
-    let columns = &all[low..high];
-    for n in 0..columns.len() {
-        let (rows, values) = block.nth_column(low + n);
-        made.push_column(columns[n], rows, values)?;
     }
     Ok(())
 }

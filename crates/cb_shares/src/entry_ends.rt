@@ -2,8 +2,7 @@
 ghost use Rattle.std.specs.Prelude.{◌≡◌, ◌<◌, ◌≤◌, length, take, drop, All, IfOk};
 ghost use Rattle.cb_shares.specs.Shares.{AreEnds};
 
-use crate::first_from;
-use cb_dcsc::Block;
+use cb_dcsc::{Block, first_from};
 use cb_layout::PanelledMatrix;
 use cb_semirings::Semiring;
 use std::alloc::{AllocError, Global};

@@ -1,4 +1,4 @@
-//! Shares of an operation on matrices in panels: which columns of the answer each thread makes, how it makes them, and how the
+//! Shares of what is computed of matrices in panels: which columns of the answer each thread makes, how it makes them, and how the
 //! panels are put beside one another.
 //!
 //! A share is a range of columns of the answer. Sums and products place by place, prunes, sums of columns, entries in a region,
@@ -18,27 +18,25 @@ mod columns;
 mod entry_ends;
 mod extracts;
 mod joins;
-mod selections;
+mod parts;
+mod products;
 mod sums;
+mod updates;
 
 ghost use Rattle.std.specs.Prelude.{◌≡◌, ℕ, ◌<◌, ◌≤◌, length, get_or, slice_index, All, AllPairs, IfOk};
-ghost use Rattle.cb_matrix.specs.Operations.{masked};
-ghost use Rattle.cb_matrix.specs.Values.{product, product_shape};
-ghost use Rattle.cb_operations.specs.Selected.{excluded};
-ghost use Rattle.cb_shares.specs.Shares.{panel, AreEnds};
+ghost use Rattle.cb_shares.specs.Shares.{AreEnds};
 
-pub use answers::{is_by_columns, operation_columns, product_columns};
+pub use answers::{check, computed_columns, is_by_columns};
 use cb_dcsc::Block;
-use cb_masked::{multiply_masked_columns, multiply_outside_columns};
 use cb_product::{ColumnIndex, products_of_columns, total_products};
 use cb_semirings::Semiring;
 pub use columns::columns_between;
 pub use entry_ends::{ends_by_entries, even_ends};
 pub use extracts::extract_columns;
 pub use joins::{are_before, join, total};
-pub use selections::{is_selection_by_columns, selection_columns, update_columns};
 use std::alloc::{AllocError, Global};
 pub use sums::{add_share, column_of_sums, share_of_sum, total_of_columns};
+pub use updates::update_columns;
 
 /// Returns where each of `count` shares of a product's columns ends. All shares take about the same number of products of
 /// two values, and about `least` or more: if there are too few products, the last shares have no columns. Columns stay
@@ -111,64 +109,5 @@ fn column_at(columns: &[u32], cols: u32, place: usize) -> u32
     match columns.get(place) {
         Some(column) => *column,
         None => cols,
-    }
-}
-
-/// Returns a panel of a product under a mask: the product's entries in the columns from `first` up to, but not including, `end`
-/// at the places where the mask has an entry, in a block with the shape of the whole product. The mask's values are ignored.
-///
-/// The columns of the left block are as many as the rows of the right, and the mask has the product's shape. Costs two binary
-/// searches, and what the product under the mask costs for these columns.
-pub fn masked_panel<S: Semiring>(
-    alloc: Global,
-    left: &Block<S>,
-    right: &Block<S>,
-    mask: &Block<S>,
-    first: u32,
-    end: u32,
-) -> Result<Block<S>, AllocError>
-    requires agree { left.now.shape.cols ≡ right.now.shape.rows }
-    requires shape { mask.now.shape ≡ product_shape left.now right.now }
-    ensures { IfOk result (λ m. m ≡ panel (masked S.arithmetic (product S.arithmetic left.now right.now) mask.now) first end) }
-{
-    prove_eq!(left.shape().cols(), right.shape().rows());
-    let columns = mask.column_numbers();
-    let low = first_from(columns, first);
-    let high = first_from(columns, end).max(low);
-    multiply_masked_columns(alloc, left, right, mask, low, high)
-}
-
-/// Returns a panel of a product outside a mask: the same at the places where the mask has no entry.
-///
-/// Costs two binary searches, and what the product outside the mask costs for these columns.
-pub fn outside_panel<S: Semiring>(
-    alloc: Global,
-    left: &Block<S>,
-    right: &Block<S>,
-    mask: &Block<S>,
-    first: u32,
-    end: u32,
-) -> Result<Block<S>, AllocError>
-    requires agree { left.now.shape.cols ≡ right.now.shape.rows }
-    requires shape { mask.now.shape ≡ product_shape left.now right.now }
-    ensures { IfOk result (λ m. m ≡ panel (excluded S.arithmetic (product S.arithmetic left.now right.now) mask.now) first end) }
-{
-    prove_eq!(left.shape().cols(), right.shape().rows());
-    let columns = right.column_numbers();
-    let low = first_from(columns, first);
-    let high = first_from(columns, end).max(low);
-    multiply_outside_columns(alloc, left, right, mask, low, high)
-}
-
-/// How many of these numbers, which ascend, are below a bound.
-fn first_from(numbers: &[u32], bound: u32) -> usize
-    requires { AllPairs (λ i j. i < j) numbers.now }
-    ensures within { result ≤ length numbers.now }
-    ensures below { (k : ℕ) → k < result → slice_index numbers.now k < bound }
-    ensures from { (k : ℕ) → result ≤ k → k < length numbers.now → bound ≤ slice_index numbers.now k }
-{
-    match numbers.binary_search(&bound) {
-        Ok(n) => n,
-        Err(n) => n,
     }
 }

@@ -5,7 +5,7 @@
 use anyhow::ensure;
 use cb_dcsc::Block;
 use cb_market::read;
-use cb_operations::Operation;
+use cb_operations::{Computation, Operation};
 use cb_semirings::{MinPlus, OrAnd};
 
 /// The roads and their lengths: an entry (i, j) is a road from i to j.
@@ -31,7 +31,8 @@ fn main(rt: HostRuntime) -> anyhow::Result<()> {
         "not five towns"
     );
 
-    let two = cb_serial::run(alloc, Operation::Multiply, &[&roads, &roads])?;
+    let product = Computation::Operation(Operation::Multiply);
+    let two = cb_serial::compute(alloc, product, &[&roads, &roads])?;
     println!(rt; "from 1 to 4 by two roads: {}", two.get(0, 3))?;
     let far = cb_searches::distances(alloc, &roads, None, 0)?;
     println!(rt; "from 1 to 4: {}", far.get(3, 0))?;

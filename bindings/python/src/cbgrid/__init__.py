@@ -184,8 +184,8 @@ def set_threads(count: int) -> None:
     """Sets how many threads each call may use from now on, the caller's among them: at first 1, at most 256.
 
     Products, powers, element-wise sums, prunes and sums of rows, of columns and of all values use them, and so do `kron`,
-    `extract`, `select`, `tril`, `triu`, `apply`, `exclude` and `update` of a `Matrix`, as far as each thread gets enough to
-    do. They are started when a call first needs them, and sleep between calls.
+    `extract`, `select`, `tril`, `triu`, `apply`, `assign`, `exclude`, `update` and slices of a `Matrix`, as far as each thread gets
+    enough to do. They are started when a call first needs them, and sleep between calls.
 
     Parameters
     ----------

@@ -1,6 +1,7 @@
 use Rattle.std.proofs.Common.{List, subst}
 use Rattle.cb_kept.specs.declared.kept.Kept.{Kept}
-use Rattle.cb_kept.specs.KeptAnswers.{kept_faults}
+use Rattle.cb_kept.specs.CallsOver.{operation_faults}
+use Rattle.cb_kept.specs.KeptAnswers.{numbered_faults}
 use Rattle.cb_kept.specs.KeptSums.{IsKeptShare}
 use Rattle.cb_ffi.specs.Calls.{IsCall}
 use Rattle.cb_ffi.specs.KeptCalls.{IsShareCall}
@@ -12,5 +13,6 @@ pub returns : goal.returns
 unfolding IsShareCall
 returns c =
     let o = c.args.operation in
-    subst (λ (ks : List Kept). IsCall (kept_faults o ks) (IsKeptShare o c.args.first c.args.end ks) c.put.result c.args.out.now c.put.new.out) (first_lent c.count_of.result _ c.args.given.now c.count_of.ensures)
-    (call_of _ _ _ _ _ _ c.kept_share_of_sum.ensures c.put.ensures.ok c.put.ensures.refused)
+    subst (λ (ks : List Kept). IsCall (numbered_faults operation_faults o ks) (IsKeptShare o c.args.first c.args.end ks) c.put.result c.args.out.now c.put.new.out)
+    (first_lent c.sum_count_of.result _ c.args.given.now c.sum_count_of.ensures)
+    (call_of _ _ _ _ _ _ c.kept_share_of_sum-answer.ensures c.put.ensures.ok c.put.ensures.refused)

@@ -1,5 +1,5 @@
 use Rattle.std.proofs.Common.{◌≡◌, [], ◌++◌, refl, ap, sym, ◌∙◌}
-use Rattle.cb_job_ends.proofs.SinkLemmas.{appends_page, prefix_page, on_err}
+use Rattle.cb_job_ends.proofs.SinkLemmas.{appends_page, prefix_page, put_stopped}
 use Rattle.cb_job_output.specs.Rounds.{joined}
 use Rattle.cb_job_output.proofs.output.put_rounds.Goals as goal
 
@@ -18,15 +18,17 @@ loop-is_left-preserved g c =
     let others : second ++ text ≡ c.loop-is_left.rest.text = ap (λ bytes. bytes ++ text) dealt ∙ sym put.text in
     let left : made ++ (joined c.loop-is_left.next.dealt ++ c.loop-is_left.rest.text) ≡ made ++ (first ++ (second ++ text)) = λ t. made ++ (sym same t ++ sym others t) in
     record {
-      text = appends_page _ _ _ i.text.0 made _ (first ++ (second ++ text)) _ i.text.1 put.whole left i.text.2;
-      works = put.works;
+      text = appends_page _ _ _ i.text.0 made _ (first ++ (second ++ text)) _ i.text.1 put.put.whole left i.text.2;
+      works = put.put.works;
       all = rw round put.made;
       rest = λ e. let none : joined coming ≡ [] = sym dealt ∙ e in sym (ap (λ bytes. bytes ++ text) none) ∙ sym put.text ∙ put.none none;
       none = c.are_left-is_left.ensures.none;
     }
 
-pub returns-in_err-put_while_made-clause-prefix : goal.returns-in_err-put_while_made-clause-prefix
-returns-in_err-put_while_made-clause-prefix g c =
+pub returns-in_err-put_while_made : goal.returns-in_err-put_while_made
+returns-in_err-put_while_made g c =
     let i = c.loop-is_left.invariant in
+    let put = c.in_err-put_while_made.ensures.put in
     let rest = joined c.loop-is_left.next.dealt ++ c.loop-is_left.rest.text in
-    on_err c.from_residual.result (prefix_page _ _ _ i.text.0 (joined c.loop-is_left.round.dealt) _ rest _ i.text.1 c.in_err-put_while_made.ensures.prefix refl i.text.2)
+    put_stopped _ c.from_residual.result c.from_residual.ensures.1
+    (prefix_page _ _ _ i.text.0 (joined c.loop-is_left.round.dealt) _ rest _ i.text.1 put.prefix refl i.text.2) put.fails

@@ -12,16 +12,16 @@ use Rattle.cb_jobs.proofs.searches_by_ranks.levels_answer.Goals as goal
 pub returns-in-Err : goal.returns-in-Err
 returns-in-Err g c =
     end_of_search (Levels c.args.source) or_and c.args.source c.args.ranks.now.engine c.args.ranks.now.grid.side c.args.texts.items c.in_ok-graph.graph c.in-Err.fault c.job_fault.result
-    (λ refusal h. (c.in_ok-graph.graph.matrix, c.in_ok-graph.ensures.only, h)) c.in_ok-graph.ensures.only c.in_ok-graph.ensures.side c.in-Err.ensures.fault c.in-Err.ensures.lost c.job_fault.ensures
+    (λ refusal h. (c.in_ok-graph.graph.matrix, NoOperand, (c.in_ok-graph.ensures.only, refl), inl h)) c.in_ok-graph.ensures.only c.in_ok-graph.ensures.side c.in-Err.ensures.fault c.in-Err.ensures.lost c.job_fault.ensures
 
-pub returns-in_ok-text_answer-in-Ok : goal.returns-in_ok-text_answer-in-Ok
-returns-in_ok-text_answer-in-Ok g c =
+pub returns-in_ok-numbers_answer-in-Ok : goal.returns-in_ok-numbers_answer-in-Ok
+returns-in_ok-numbers_answer-in-Ok g c =
     let a = c.in_ok-graph.graph.matrix in
     let column = c.in-Ok.column in
     let matrix : IsMatrix min_plus column = search rules in
-    let operands : AreOperands beside_is.Nothing or_and (Levels c.args.source) c.args.texts.items a NoOperand = (c.in-Ok.ensures.agree, (c.in_ok-graph.ensures.only, refl)) in
+    let operands : AreOperands beside_is.Nothing or_and (Levels c.args.source) c.args.texts.items a NoOperand = ((c.in-Ok.ensures.agree, tt), (c.in_ok-graph.ensures.only, refl)) in
     record {
-      answer = (Numbers column, (a, NoOperand, operands, (matrix, c.in-Ok.ensures.ok)), c.in_ok-text_answer-in-Ok.ensures);
+      answer = (Numbers column, (a, NoOperand, operands, (column, refl, matrix, c.in-Ok.ensures.ok)), c.in_ok-numbers_answer-in-Ok.ensures);
       unwritten = (inl (a, NoOperand, operands), inl (a, NoOperand, operands));
       fault = tt;
       before = tt;

@@ -9,5 +9,5 @@ returns g c =
     let s = g.S.Semiring.arithmetic in
     record {
       columns = c.total_of_columns.ensures;
-      all = λ whole. c.total_of_columns.ensures ∙ ap (λ (m : Sparse). matrix_total s m) (whole_panel s c.args.matrix.now c.args.first c.args.end c.shape.ensures.matrix whole);
+      all = λ whole. c.total_of_columns.ensures ∙ ap (λ (m : Sparse). matrix_total s m) (whole_panel c.args.matrix.now c.args.first c.args.end c.shape.ensures.matrix.inside whole);
     }

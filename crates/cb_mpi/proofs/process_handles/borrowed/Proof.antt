@@ -2,8 +2,8 @@ use Rattle.cb_mpi.proofs.Steps.{List, [], ◌∷◌, refl, ap, proved, ftrue, Va
 use Rattle.cb_mpi.specs.contracts.process_handles.borrowed as f
 use Rattle.cb_mpi.proofs.process_handles.borrowed.Statement.{statement}
 use Rattle.cb_mpi.proofs.process_handles.borrowed.Code as code
-use Rattle.cb_mpi.specs.contracts.process_handles.Lent.{the_row as R}
-use Rattle.cb_mpi.proofs.process_handles.Lent.TheLaws.{lowered, lowers}
+use Rattle.cb_mpi.specs.contracts.process_handles.LentProcess.{the_row as R}
+use Rattle.cb_mpi.proofs.process_handles.LentProcess.TheLaws.{lowered, lowers}
 
 abbrev stayed : Stays f.ended.signature.params f.ended.kept
 stayed = (stay_dropped _ yes, tt)

@@ -8,8 +8,8 @@ use Rattle.cb_mpi.specs.ProcessHandles.{owned_at}
 use Rattle.cb_mpi.specs.contracts.process_handles.take_back as f
 use Rattle.cb_mpi.proofs.process_handles.take_back.Statement.{statement}
 use Rattle.cb_mpi.proofs.process_handles.take_back.Code as code
-use Rattle.cb_mpi.specs.contracts.process_handles.Owned.{the_row as R}
-use Rattle.cb_mpi.proofs.process_handles.Owned.TheLaws.{lowered, lowers}
+use Rattle.cb_mpi.specs.contracts.process_handles.OwnedProcess.{the_row as R}
+use Rattle.cb_mpi.proofs.process_handles.OwnedProcess.TheLaws.{lowered, lowers}
 
 abbrev stayed : Stays f.ended.signature.params f.ended.kept
 stayed = (stay_dropped _ yes, tt)

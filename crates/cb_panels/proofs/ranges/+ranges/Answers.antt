@@ -3,7 +3,7 @@ use Rattle.cb_matrix.specs.Sparse.{Sparse, IsMatrix}
 use Rattle.cb_dcsc.specs.Columns.{with_entries}
 use Rattle.cb_product.proofs.OnlyColumns.{only_matrix}
 use Rattle.cb_operations.specs.Operands.{lent_in}
-use Rattle.cb_panels.specs.Shared.{answer_of}
+use Rattle.cb_operations.specs.Computations.{answer_of}
 use Rattle.cb_shares.specs.Shares.{columns_from, panel}
 use Rattle.cb_shares.proofs.Neighbours.{neighbours_joined}
 use Rattle.cb_panels.proofs.ranges.+ranges.Goals as goal
@@ -13,7 +13,7 @@ join-requires-clause-matrix g t c =
     let s = g.S.Semiring.arithmetic in
     let ends = c.args.ends.now in
     let n = c.args.count in
-    let whole : Sparse = answer_of c.args.work s (lent_in c.args.operands.now) in
+    let whole : Sparse = answer_of c.args.computation s (lent_in c.args.operands.now) in
     let q = slice_index ends (n - 2) in
     let r = slice_index ends (n - 1) in
     let up : q ≤ r = c.requires.ranges.ascending (n - 2) (n - 1) 0 (omega arith) (omega arith) in
@@ -35,7 +35,7 @@ returns g t c =
     let s = g.S.Semiring.arithmetic in
     let ends = c.args.ends.now in
     let n = c.args.count in
-    let whole : Sparse = answer_of c.args.work s (lent_in c.args.operands.now) in
+    let whole : Sparse = answer_of c.args.computation s (lent_in c.args.operands.now) in
     let q = slice_index ends (n - 2) in
     let r = slice_index ends (n - 1) in
     let up : q ≤ r = c.requires.ranges.ascending (n - 2) (n - 1) 0 (omega arith) (omega arith) in

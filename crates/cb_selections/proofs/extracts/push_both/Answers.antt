@@ -3,7 +3,7 @@ use Rattle.std.specs.Prelude.{All}
 use Rattle.cb_matrix.specs.Sparse.{Extent}
 use Rattle.cb_dcsc.proofs.Lookup.{rows_inside}
 use Rattle.cb_product.proofs.StoredColumn.{column_adds}
-use Rattle.cb_selections.specs.ListedRows.{ArePlaces}
+use Rattle.cb_selections.specs.RowTables.{IsRowTable}
 use Rattle.cb_selections.proofs.ListedRows.{value_for, listed_has, listed_column}
 use Rattle.cb_selections.proofs.ExtractedColumns.{both_listed}
 use Rattle.cb_selections.proofs.RangedColumns.{ranged_none, ranged_more, ranged_all}
@@ -18,31 +18,31 @@ loop-n-init g c =
 
 pub keep_listed-requires-clause-inside : goal.keep_listed-requires-clause-inside
 keep_listed-requires-clause-inside g c =
-    subst (λ m. All (λ i. i < m) c.column_of.result.0.now) (sym c.requires.places.count)
+    subst (λ m. All (λ i. i < m) c.column_of.result.0.now) (sym c.requires.table.places.count)
     (rows_inside g.S.Semiring.arithmetic c.args.block.now (get_or c.args.cols.now c.loop-n.n 0) c.column_of.result.0.now c.requires.matrix c.column_of.ensures.rows)
 
-pub keep_listed-requires-clause-places : goal.keep_listed-requires-clause-places
-keep_listed-requires-clause-places g c =
-    subst (λ m. ArePlaces m c.args.listed.now c.args.places.now) (sym c.requires.places.count) c.requires.places
+pub keep_listed-requires-clause-table : goal.keep_listed-requires-clause-table
+keep_listed-requires-clause-table g c =
+    subst (λ m. IsRowTable m c.args.listed.now c.args.table.now) (sym c.requires.table.places.count) c.requires.table
 
 pub push_column-requires-clause-rows : goal.push_column-requires-clause-rows
 push_column-requires-clause-rows g c =
     let shape = ap (λ (x : Extent). x.rows) c.loop-n.invariant.shape in
-    rw c.deref.ensures.value (subst (λ m. All (λ i. i < m) (take c.in_ok-count.count c.keep_listed.new.kept_rows.items)) (sym shape) c.in_ok-count.ensures.listed.inside)
+    rw c.deref.ensures.value (subst (λ m. All (λ i. i < m) (take c.in_ok-count.count c.keep_listed.new.kept.rows.items)) (sym shape) c.in_ok-count.ensures.listed.inside)
 
 pub push_column-requires-clause-values : goal.push_column-requires-clause-values
 push_column-requires-clause-values g c =
     let a = c.args.block.now in
     let e = c.column_of.ensures in
     let n = c.in_ok-count.count in
-    rw c.deref-in-loop-n.ensures.value (listed_column g.S.Semiring.arithmetic a c.requires.matrix c.args.listed.now (get_or c.args.cols.now c.loop-n.n 0) c.column_of.result.0.now c.column_of.result.1.now (take n c.keep_listed.new.kept_rows.items) (take n c.keep_listed.new.kept_values.items) e.rows e.values c.in_ok-count.ensures.listed).are_values
+    rw c.deref-in-loop-n.ensures.value (listed_column g.S.Semiring.arithmetic a c.requires.matrix c.args.listed.now (get_or c.args.cols.now c.loop-n.n 0) c.column_of.result.0.now c.column_of.result.1.now (take n c.keep_listed.new.kept.rows.items) (take n c.keep_listed.new.kept.values.items) e.rows e.values c.in_ok-count.ensures.listed).are_values
 
 pub push_column-requires-clause-not_zero : goal.push_column-requires-clause-not_zero
 push_column-requires-clause-not_zero g c =
     let a = c.args.block.now in
     let e = c.column_of.ensures in
     let n = c.in_ok-count.count in
-    rw c.deref-in-loop-n.ensures.value (listed_column g.S.Semiring.arithmetic a c.requires.matrix c.args.listed.now (get_or c.args.cols.now c.loop-n.n 0) c.column_of.result.0.now c.column_of.result.1.now (take n c.keep_listed.new.kept_rows.items) (take n c.keep_listed.new.kept_values.items) e.rows e.values c.in_ok-count.ensures.listed).not_zero
+    rw c.deref-in-loop-n.ensures.value (listed_column g.S.Semiring.arithmetic a c.requires.matrix c.args.listed.now (get_or c.args.cols.now c.loop-n.n 0) c.column_of.result.0.now c.column_of.result.1.now (take n c.keep_listed.new.kept.rows.items) (take n c.keep_listed.new.kept.values.items) e.rows e.values c.in_ok-count.ensures.listed).not_zero
 
 pub loop-n-preserved : goal.loop-n-preserved
 loop-n-preserved g c =
@@ -55,8 +55,8 @@ loop-n-preserved g c =
     let j = get_or cols n 0 in
     let rows = c.column_of.result.0.now in
     let values = c.column_of.result.1.now in
-    let ks = take c.in_ok-count.count c.keep_listed.new.kept_rows.items in
-    let ws = take c.in_ok-count.count c.keep_listed.new.kept_values.items in
+    let ks = take c.in_ok-count.count c.keep_listed.new.kept.rows.items in
+    let ws = take c.in_ok-count.count c.keep_listed.new.kept.values.items in
     let e = c.column_of.ensures in
     let kept = c.in_ok-count.ensures.listed in
     let has = listed_has s a is listed j rows values ks ws e.rows e.values kept in

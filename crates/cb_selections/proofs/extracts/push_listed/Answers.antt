@@ -5,7 +5,7 @@ use Rattle.cb_dcsc.specs.Columns.{rows_of, values_of}
 use Rattle.cb_dcsc.proofs.Lookup.{rows_inside}
 use Rattle.cb_product.proofs.StoredColumn.{column_adds}
 use Rattle.cb_product.proofs.ColumnsMade.{walk_none, walk_more, walk_all, before_column}
-use Rattle.cb_selections.specs.ListedRows.{ArePlaces}
+use Rattle.cb_selections.specs.RowTables.{IsRowTable}
 use Rattle.cb_elementwise.proofs.ReplacedColumns.{nth_are}
 use Rattle.cb_selections.proofs.ListedRows.{value_for, listed_absent, listed_has, listed_column, listed_are}
 use Rattle.cb_selections.proofs.extracts.push_listed.Goals as goal
@@ -23,12 +23,12 @@ keep_listed-requires-clause-inside g c =
     let a = c.args.block.now in
     let cs = c.column_numbers-columns in
     let n = c.loop-n.n in
-    subst (λ m. All (λ i. i < m) c.nth_column.result.0.now) (sym c.requires.places.count)
+    subst (λ m. All (λ i. i < m) c.nth_column.result.0.now) (sym c.requires.table.places.count)
     (rows_inside g.S.Semiring.arithmetic a (get_or cs.result.now n 0) c.nth_column.result.0.now c.requires.matrix (nth_are a.entries cs.result.now c.nth_column.result.0.now n rows_of cs.ensures.numbers c.nth_column.ensures.rows))
 
-pub keep_listed-requires-clause-places : goal.keep_listed-requires-clause-places
-keep_listed-requires-clause-places g c =
-    subst (λ m. ArePlaces m c.args.listed.now c.args.places.now) (sym c.requires.places.count) c.requires.places
+pub keep_listed-requires-clause-table : goal.keep_listed-requires-clause-table
+keep_listed-requires-clause-table g c =
+    subst (λ m. IsRowTable m c.args.listed.now c.args.table.now) (sym c.requires.table.places.count) c.requires.table
 
 pub push_column-requires-clause-values : goal.push_column-requires-clause-values
 push_column-requires-clause-values g c =
@@ -38,7 +38,7 @@ push_column-requires-clause-values g c =
     let k = c.in_ok-count.count in
     let rows_are = nth_are a.entries cs.result.now c.nth_column.result.0.now n rows_of cs.ensures.numbers c.nth_column.ensures.rows in
     let values_are = nth_are a.entries cs.result.now c.nth_column.result.1.now n values_of cs.ensures.numbers c.nth_column.ensures.values in
-    rw c.deref-in-loop-n.ensures.value (listed_column g.S.Semiring.arithmetic a c.requires.matrix c.args.listed.now (get_or cs.result.now n 0) c.nth_column.result.0.now c.nth_column.result.1.now (take k c.keep_listed.new.kept_rows.items) (take k c.keep_listed.new.kept_values.items) rows_are values_are c.in_ok-count.ensures.listed).are_values
+    rw c.deref-in-loop-n.ensures.value (listed_column g.S.Semiring.arithmetic a c.requires.matrix c.args.listed.now (get_or cs.result.now n 0) c.nth_column.result.0.now c.nth_column.result.1.now (take k c.keep_listed.new.kept.rows.items) (take k c.keep_listed.new.kept.values.items) rows_are values_are c.in_ok-count.ensures.listed).are_values
 
 pub push_column-requires-clause-not_zero : goal.push_column-requires-clause-not_zero
 push_column-requires-clause-not_zero g c =
@@ -48,7 +48,7 @@ push_column-requires-clause-not_zero g c =
     let k = c.in_ok-count.count in
     let rows_are = nth_are a.entries cs.result.now c.nth_column.result.0.now n rows_of cs.ensures.numbers c.nth_column.ensures.rows in
     let values_are = nth_are a.entries cs.result.now c.nth_column.result.1.now n values_of cs.ensures.numbers c.nth_column.ensures.values in
-    rw c.deref-in-loop-n.ensures.value (listed_column g.S.Semiring.arithmetic a c.requires.matrix c.args.listed.now (get_or cs.result.now n 0) c.nth_column.result.0.now c.nth_column.result.1.now (take k c.keep_listed.new.kept_rows.items) (take k c.keep_listed.new.kept_values.items) rows_are values_are c.in_ok-count.ensures.listed).not_zero
+    rw c.deref-in-loop-n.ensures.value (listed_column g.S.Semiring.arithmetic a c.requires.matrix c.args.listed.now (get_or cs.result.now n 0) c.nth_column.result.0.now c.nth_column.result.1.now (take k c.keep_listed.new.kept.rows.items) (take k c.keep_listed.new.kept.values.items) rows_are values_are c.in_ok-count.ensures.listed).not_zero
 
 pub loop-n-preserved : goal.loop-n-preserved
 loop-n-preserved g c =
@@ -61,8 +61,8 @@ loop-n-preserved g c =
     let j = get_or cs.result.now n 0 in
     let rows = c.nth_column.result.0.now in
     let values = c.nth_column.result.1.now in
-    let ks = take c.in_ok-count.count c.keep_listed.new.kept_rows.items in
-    let ws = take c.in_ok-count.count c.keep_listed.new.kept_values.items in
+    let ks = take c.in_ok-count.count c.keep_listed.new.kept.rows.items in
+    let ws = take c.in_ok-count.count c.keep_listed.new.kept.values.items in
     let extent : Extent = record { rows = length listed; cols = a.shape.cols } in
     let rows_are = nth_are a.entries cs.result.now rows n rows_of cs.ensures.numbers c.nth_column.ensures.rows in
     let values_are = nth_are a.entries cs.result.now values n values_of cs.ensures.numbers c.nth_column.ensures.values in

@@ -1,7 +1,7 @@
 use Rattle.std.proofs.Common.{◌≡◌, [], ◌∷◌, subst, ◌∙◌}
 use Rattle.std.specs.Prelude.{IfOk}
 use Rattle.cb_matrix.specs.Sparse.{Sparse}
-use Rattle.cb_operations.specs.OperationAnswers.{answer_of}
+use Rattle.cb_operations.specs.Computations.{answer_of}
 use Rattle.cb_shares.specs.Shares.{columns_from}
 use Rattle.cb_shares.proofs.ByColumns.{two_columns}
 use Rattle.cb_shares.proofs.answers.columns_of_both.Goals as goal
@@ -9,7 +9,7 @@ use Rattle.cb_shares.proofs.answers.columns_of_both.Goals as goal
 pub returns : goal.returns
 returns g c =
     let s = g.S.Semiring.arithmetic in
-    let o = c.args.operation in
+    let o = c.args.computation in
     let cs = columns_from c.args.first c.args.end in
     let left = c.block.ensures ∙ c.in_ok-left.ensures.columns in
     let right = c.block-2.ensures ∙ c.in_ok-right.ensures.columns in

@@ -8,6 +8,3 @@ returns-then-high-columns g c =
     let m = c.args.block.now in
     let at = c.places_between-low.result in
     sym (all_places m at.0 at.1 (columns_with_entries m.entries) refl c.if-low-eq0.true (c.if-high-columns.true ∙ c.columns.ensures)) ∙ c.places_between-low.ensures.columns
-
-pub returns : goal.returns
-returns g c = c.in_ok-columns_at.ensures ∙ c.places_between-low.ensures.columns

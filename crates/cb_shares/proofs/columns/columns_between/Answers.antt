@@ -1,12 +1,13 @@
-use Rattle.std.proofs.Common.{◌≡◌, ap, sym, subst, ◌∙◌}
+use Rattle.std.proofs.Common.{◌≡◌, ◌≤◌, ap, sym, subst, arith, ◌∙◌}
 use Rattle.std.specs.Prelude.{IfOk}
 use Rattle.std.proofs.lemmas.Bool.{eqb-true}
 use Rattle.std.proofs.lemmas.List.{nil_from_length}
 use Rattle.std.proofs.lemmas.List.Elements.{All-head, All-tail, All-weaker}
-use Rattle.cb_matrix.specs.Sparse.{Sparse}
+use Rattle.cb_matrix.specs.Sparse.{Sparse, Extent}
 use Rattle.cb_layout.specs.Panels.{whole_of}
 use Rattle.cb_shares.specs.Shares.{columns_from, panel}
 use Rattle.cb_shares.proofs.PanelColumns.{all_joined, all_matrix, one_panel}
+use Rattle.cb_shares.proofs.Ranges.{all_columns}
 use Rattle.cb_shares.proofs.columns.columns_between.Goals as goal
 
 pub returns-then-is_empty-clause-columns : goal.returns-then-is_empty-clause-columns
@@ -35,3 +36,11 @@ pub returns-clause-columns : goal.returns-clause-columns
 returns-clause-columns g c =
     c.in_ok-append_columns.ensures
     ∙ all_joined g.S.Semiring.arithmetic (columns_from c.args.first c.args.end) c.args.matrix.now c.panels.result.0.now c.in_ok-made.made c.panels.result.1.now c.panels.ensures.panels c.panels.ensures.shapes c.in_ok-made.ensures
+
+pub returns-then-end-cols-clause-columns : goal.returns-then-end-cols-clause-columns
+returns-then-end-cols-clause-columns g c =
+    let m = c.args.matrix.now in
+    let cols : c.cols.result ≡ m.shape.cols = c.cols.ensures.value ∙ ap (λ (d : Extent). d.cols) c.shape-then-first-eq0.ensures.shape in
+    let high : c.cols.result ≤ c.args.end = c.if-end-cols.true in
+    let law = ap (λ n. panel m n c.args.end) c.if-first-eq0.true ∙ all_columns g.S.Semiring.arithmetic m c.args.end c.shape-2.ensures.matrix (omega (arith, cols, high)) in
+    subst (λ (n : Sparse). IfOk c.whole.result (λ made. whole_of made ≡ n)) (sym law) c.whole.ensures

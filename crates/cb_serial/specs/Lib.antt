@@ -1,2 +1,0 @@
--- SerialFaults: why an operation on blocks fails.
-pub mod SerialFaults
