@@ -1,7 +1,7 @@
 -- What a command asks for by its options and files.
-use Rattle.std.specs.Prelude.{◌≡◌, ◌≤◌, ◌<◌, ◌+◌, ◌*◌, ◌==◌, ◌||◌, ℕ, ℤ, pos, negsuc, suc, Bool, List, [], ◌∷◌, map, min, max}
+use Rattle.std.specs.Prelude.{◌≡◌, ◌≤◌, ◌<◌, ◌+◌, ◌*◌, ◌||◌, ℕ, ℤ, pos, negsuc, suc, Bool, List, [], ◌∷◌, map, min, max}
 use Rattle.std.specs.Prelude.{Option, Some, None, if◌then◌else◌, MatchOption, codes, option_map, option_and_then, unwrap_or}
-use Rattle.std.specs.Prelude.{bytes_eq, string_bytes, IsSomeAnd, Vec, String}
+use Rattle.std.specs.Prelude.{bytes_eq, string_bytes, take, IsSomeAnd, Vec, String}
 use Rattle.std.specs.Bool.{MatchBool}
 use Rattle.std.specs.declared.alloc.Global.{Global}
 use Rattle.std.specs.Int.NonZero.{non_zero_u32_get}
@@ -28,7 +28,9 @@ use Rattle.cb_operations.specs.declared.regions.Region.TheVariants.{Lower, Upper
 use Rattle.cb_operations.specs.declared.functions.Function.{Function}
 use Rattle.cb_operations.specs.declared.functions.Function.TheVariants as function
 use Rattle.cb_operations.specs.Graphs.{beside_of}
-use Rattle.cb_operations.specs.SelectionAnswers.{operand_count_of}
+use Rattle.cb_operations.specs.declared.computations.Computation.{Computation}
+use Rattle.cb_operations.specs.declared.computations.Computation.TheVariants as computation
+use Rattle.cb_operations.specs.Computations.{operand_count_of}
 use Rattle.cb_command_line.specs.Options.{integer, is_there, is_word, number, place, word}
 use Rattle.cb_command_line.specs.declared.jobs.EngineName.{EngineName}
 use Rattle.cb_command_line.specs.declared.jobs.EngineName.TheVariants.{Plain, Ranks, Traced}
@@ -37,8 +39,6 @@ use Rattle.cb_command_line.specs.declared.lists.Lists.{Lists}
 use Rattle.cb_command_line.specs.declared.lists.Lists.TheVariants as list_of
 use Rattle.cb_command_line.specs.declared.tasks.Task.{Task}
 use Rattle.cb_command_line.specs.declared.tasks.Task.TheVariants as task
-use Rattle.cb_command_line.specs.declared.tasks.SelectionTask.{SelectionTask}
-use Rattle.cb_command_line.specs.declared.tasks.SelectionTask.TheVariants.{Selected, Extract}
 
 module _ {X : Type 0} where
   -- what stands beside a word in a table
@@ -121,16 +121,17 @@ AsksForSelection command rows (Power factors) =
     (command ≡ codes "power") × (number 32 (codes "exponent") rows ≡ Some (non_zero_u32_get factors))
 AsksForSelection command rows selection = entry command (selections rows) ≡ Some selection
 
+-- the command asks for a computation: an operation or a selection, and no command for the product outside a mask
+abbrev pub AsksForComputation : Text → List Row → Computation → Type 0
+AsksForComputation command rows (computation.Operation operation) = entry command (operations rows) ≡ Some operation
+AsksForComputation command rows (computation.Selection selection) = AsksForSelection command rows selection
+AsksForComputation command rows computation.MultiplyOutside = ⊥
+
 -- the lists that `--rows` and `--columns` name files of
 abbrev pub lists_in : List Row → Option Lists
 lists_in rows =
     if is_there (codes "rows") rows then Some (if is_there (codes "columns") rows then list_of.Both else list_of.Rows)
     else (if is_there (codes "columns") rows then Some list_of.Columns else None)
-
--- the command asks for a selection, or for rows and columns by lists
-abbrev pub AsksForSelectionTask : Text → List Row → SelectionTask → Type 0
-AsksForSelectionTask command rows (Selected selection) = AsksForSelection command rows selection
-AsksForSelectionTask command rows (Extract lists) = (command ≡ codes "extract") × (lists_in rows ≡ Some lists)
 
 -- the commands on graphs
 abbrev pub graph_tasks : List Row → List (Text × Option GraphTask)
@@ -150,32 +151,20 @@ graph_tasks rows =
 
 -- the command asks for a task; one over a semiring takes that of `--semiring`
 abbrev pub AsksFor : Text → List Row → Task → Type 0
-AsksFor command rows (task.Operation operation semiring) =
-    (entry command (operations rows) ≡ Some operation) × (semiring_in rows ≡ Some semiring)
-AsksFor command rows (task.Selection selection semiring) =
-    AsksForSelectionTask command rows selection × (semiring_in rows ≡ Some semiring)
+AsksFor command rows (task.Compute computed semiring) = AsksForComputation command rows computed × (semiring_in rows ≡ Some semiring)
+AsksFor command rows (task.Extract lists semiring) =
+    (command ≡ codes "extract") × (lists_in rows ≡ Some lists) × (semiring_in rows ≡ Some semiring)
 AsksFor command rows (task.Graph graph) = entry command (graph_tasks rows) ≡ Some graph
 
 -- the files of a task, by the names that the command's help gives them, in the order in which they are read
-abbrev pub operand_names : Operation → List Text
-operand_names Multiply = codes "A" ∷ codes "B" ∷ []
-operand_names MultiplyMasked = codes "A" ∷ codes "B" ∷ codes "mask" ∷ []
-operand_names MultiplyVector = codes "A" ∷ codes "x" ∷ []
-operand_names Transpose = codes "A" ∷ []
-operand_names RowSums = codes "A" ∷ []
-operand_names ColumnSums = codes "A" ∷ []
-operand_names Add = codes "A" ∷ codes "B" ∷ []
-operand_names Times = codes "A" ∷ codes "B" ∷ []
-operand_names (Prune test) = codes "A" ∷ []
+abbrev pub operand_names : Computation → List Text
+operand_names (computation.Operation MultiplyVector) = codes "A" ∷ codes "x" ∷ []
+operand_names computed = take (operand_count_of computed) (codes "A" ∷ codes "B" ∷ codes "mask" ∷ [])
 
 abbrev pub list_names : Lists → List Text
 list_names list_of.Rows = codes "A" ∷ codes "rows" ∷ []
 list_names list_of.Columns = codes "A" ∷ codes "columns" ∷ []
 list_names list_of.Both = codes "A" ∷ codes "rows" ∷ codes "columns" ∷ []
-
-abbrev pub selection_file_names : SelectionTask → List Text
-selection_file_names (Selected selection) = if operand_count_of selection == 1 then codes "A" ∷ [] else codes "A" ∷ codes "B" ∷ []
-selection_file_names (Extract lists) = list_names lists
 
 abbrev pub names_with : Beside → List Text
 names_with Nothing = codes "A" ∷ []
@@ -183,8 +172,8 @@ names_with Sources = codes "A" ∷ codes "s" ∷ []
 names_with Values = codes "A" ∷ codes "x" ∷ []
 
 abbrev pub file_names : Task → List Text
-file_names (task.Operation operation semiring) = operand_names operation
-file_names (task.Selection selection semiring) = selection_file_names selection
+file_names (task.Compute computed semiring) = operand_names computed
+file_names (task.Extract lists semiring) = list_names lists
 file_names (task.Graph graph) = names_with (beside_of graph)
 
 -- the command asks for a trace

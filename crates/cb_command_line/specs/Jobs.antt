@@ -5,14 +5,11 @@ use Rattle.clap.specs.declared.error.kind.ErrorKind.TheVariants.{DisplayHelp, Di
 use Rattle.cb_semirings.specs.declared.names.SemiringName.{SemiringName}
 use Rattle.cb_semirings.specs.declared.names.SemiringName.TheVariants.{PlusTimes, MinPlus, OrAnd, MaxMin}
 use Rattle.cb_operations.specs.Graphs as graphs
-use Rattle.cb_operations.specs.OperationAnswers.{operand_count_of}
-use Rattle.cb_operations.specs.SelectionAnswers as selections
+use Rattle.cb_operations.specs.Computations.{operand_count_of}
 use Rattle.cb_command_line.specs.declared.lists.Lists.{Lists}
 use Rattle.cb_command_line.specs.declared.lists.Lists.TheVariants.{Rows, Columns, Both}
 use Rattle.cb_command_line.specs.declared.tasks.Task.{Task}
-use Rattle.cb_command_line.specs.declared.tasks.Task.TheVariants.{Operation, Selection, Graph}
-use Rattle.cb_command_line.specs.declared.tasks.SelectionTask.{SelectionTask}
-use Rattle.cb_command_line.specs.declared.tasks.SelectionTask.TheVariants.{Selected, Extract}
+use Rattle.cb_command_line.specs.declared.tasks.Task.TheVariants.{Compute, Extract, Graph}
 
 -- whether a semiring is one in the sense of algebra, whose product distributes over its sum
 abbrev pub is_distributive : SemiringName → Bool
@@ -28,15 +25,10 @@ list_count_of Rows = 1
 list_count_of Columns = 1
 list_count_of Both = 2
 
--- how many files a selection reads
-abbrev pub selection_file_count_of : SelectionTask → ℕ
-selection_file_count_of (Selected selection) = selections.operand_count_of selection
-selection_file_count_of (Extract lists) = 1 + list_count_of lists
-
 -- how many files a task reads
 abbrev pub file_count_of : Task → ℕ
-file_count_of (Operation operation semiring) = operand_count_of operation
-file_count_of (Selection task semiring) = selection_file_count_of task
+file_count_of (Compute computation semiring) = operand_count_of computation
+file_count_of (Extract lists semiring) = 1 + list_count_of lists
 file_count_of (Graph task) = graphs.operand_count_of task
 
 -- the command line asks for help, or for the version

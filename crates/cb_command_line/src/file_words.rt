@@ -1,29 +1,26 @@
 //! Reads the names of a job's files.
 ghost use Rattle.std.specs.Prelude.{◌≡◌, ◌+◌, IfOk, IfSome, length, map, vec_len};
+ghost use Rattle.cb_operations.specs.Computations.{operand_count_of};
 ghost use Rattle.cb_operations.specs.Graphs.{count_with};
-ghost use Rattle.cb_operations.specs.OperationAnswers.{operand_count_of};
-ghost use Rattle.cb_command_line.specs.Asked.{AreWordsOf, file_names, list_names, names_with, operand_names, selection_file_names};
-ghost use Rattle.cb_command_line.specs.Jobs.{file_count_of, list_count_of, selection_file_count_of};
+ghost use Rattle.cb_command_line.specs.Asked.{AreWordsOf, file_names, list_names, names_with, operand_names};
+ghost use Rattle.cb_command_line.specs.Jobs.{file_count_of, list_count_of};
 ghost use Rattle.cb_command_line.specs.Options.{rows_in};
 
 use crate::lists::Lists;
 use crate::options::word_of;
-use crate::tasks::{SelectionTask, Task};
-use cb_operations::{Beside, Operation};
+use crate::tasks::Task;
+use cb_operations::{Beside, Computation, Operation};
 use clap::ArgMatches;
 use std::alloc::{AllocError, Global};
 
-/// The arguments that name the matrices of an operation, in the order in which they are read.
-fn operands(operation: Operation) -> &'static [&'static str]
-    ensures count { length result.now ≡ operand_count_of operation }
-    ensures names { map (λ name. name.now) result.now ≡ operand_names operation }
+/// The arguments that name the matrices of a computation, in the order in which they are read.
+fn operands(computation: Computation) -> &'static [&'static str]
+    ensures count { length result.now ≡ operand_count_of computation }
+    ensures names { map (λ name. name.now) result.now ≡ operand_names computation }
 {
-    match operation {
-        Operation::Multiply | Operation::Add | Operation::Times => &["A", "B"],
-        Operation::MultiplyMasked => &["A", "B", "mask"],
-        Operation::MultiplyVector => &["A", "x"],
-        Operation::Transpose | Operation::RowSums | Operation::ColumnSums => &["A"],
-        Operation::Prune(_) => &["A"],
+    match computation {
+        Computation::Operation(Operation::MultiplyVector) => &["A", "x"],
+        _ => &["A", "B", "mask"][..computation.operand_count()],
     }
 }
 
@@ -36,18 +33,6 @@ fn listed(lists: Lists) -> &'static [&'static str]
         Lists::Rows => &["A", "rows"],
         Lists::Columns => &["A", "columns"],
         Lists::Both => &["A", "rows", "columns"],
-    }
-}
-
-/// The arguments that name the files of a selection, in the order in which they are read.
-fn selected(task: SelectionTask) -> &'static [&'static str]
-    ensures count { length result.now ≡ selection_file_count_of task }
-    ensures names { map (λ name. name.now) result.now ≡ selection_file_names task }
-{
-    match task {
-        SelectionTask::Selected(selection) if selection.operand_count() == 1 => &["A"],
-        SelectionTask::Selected(_) => &["A", "B"],
-        SelectionTask::Extract(lists) => listed(lists),
     }
 }
 
@@ -69,8 +54,8 @@ pub fn arguments(task: Task) -> &'static [&'static str]
     ensures names { map (λ name. name.now) result.now ≡ file_names task }
 {
     match task {
-        Task::Operation(operation, _) => operands(operation),
-        Task::Selection(task, _) => selected(task),
+        Task::Compute(computation, _) => operands(computation),
+        Task::Extract(lists, _) => listed(lists),
         Task::Graph(task) => searched(task.beside()),
     }
 }

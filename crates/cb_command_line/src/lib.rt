@@ -24,5 +24,5 @@ mod words;
 pub use command_lines::{CommandLine, SystemLine};
 pub use jobs::{EngineName, Job, UsageFault};
 pub use lists::Lists;
-pub use tasks::{SelectionTask, Task, is_distributive};
+pub use tasks::{Task, is_distributive};
 pub use words::{asked, read_job};

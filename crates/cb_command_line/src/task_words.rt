@@ -1,13 +1,13 @@
 //! Reads the task of a command line.
 ghost use Rattle.std.specs.Prelude.{◌≡◌, IfSome, Some};
-ghost use Rattle.cb_command_line.specs.Asked.{AsksFor, AsksForSelectionTask, entry, graph_tasks, operations, semiring_in, test_in};
+ghost use Rattle.cb_command_line.specs.Asked.{AsksFor, AsksForComputation, entry, graph_tasks, operations, semiring_in, test_in};
 ghost use Rattle.cb_command_line.specs.Options.{rows_in};
 
 use crate::options::{has_word, is_there, number_of, place_of, word_of};
 use crate::selection_words::{lists_of, selection_of};
-use crate::tasks::{SelectionTask, Task};
+use crate::tasks::Task;
 use cb_matrix::Test;
-use cb_operations::{GraphTask, Operation};
+use cb_operations::{Computation, GraphTask, Operation};
 use cb_semirings::SemiringName;
 use clap::ArgMatches;
 
@@ -69,13 +69,13 @@ fn graph_task_of(command: &str, found: &ArgMatches<'_>) -> Option<GraphTask>
     }
 }
 
-/// The task of a command that selects from matrices.
-fn selection_task_of(command: &str, found: &ArgMatches<'_>) -> Option<SelectionTask>
-    ensures { IfSome result (AsksForSelectionTask command.now (rows_in found.now)) }
+/// What a command computes of matrices.
+fn computation_of(command: &str, found: &ArgMatches<'_>) -> Option<Computation>
+    ensures { IfSome result (AsksForComputation command.now (rows_in found.now)) }
 {
-    match command {
-        "extract" => Some(SelectionTask::Extract(lists_of(found)?)),
-        _ => Some(SelectionTask::Selected(selection_of(command, found)?)),
+    match operation_of(command, found) {
+        Some(operation) => Some(Computation::Operation(operation)),
+        None => Some(Computation::Selection(selection_of(command, found)?)),
     }
 }
 
@@ -87,9 +87,8 @@ pub fn task_of(command: &str, found: &ArgMatches<'_>) -> Option<Task>
         return Some(Task::Graph(task));
     }
     let semiring = semiring_of(found)?;
-    if let Some(operation) = operation_of(command, found) {
-        return Some(Task::Operation(operation, semiring));
+    match command {
+        "extract" => Some(Task::Extract(lists_of(found)?, semiring)),
+        _ => Some(Task::Compute(computation_of(command, found)?, semiring)),
     }
-    let task = selection_task_of(command, found)?;
-    Some(Task::Selection(task, semiring))
 }

@@ -3,28 +3,19 @@ ghost use Rattle.std.specs.Prelude.{◌≡◌};
 ghost use Rattle.cb_command_line.specs.Jobs.{is_distributive};
 
 use crate::lists::Lists;
-use cb_operations::{GraphTask, Operation, Selection};
+use cb_operations::{Computation, GraphTask};
 use cb_semirings::SemiringName;
 
-/// What is computed from the files. Each kind of task has a crate that does it, and a small program.
+/// What is computed from the files. Tasks on matrices have a crate that does them, and a small program; so have those on graphs.
 #[derive(Clone, Copy, PartialEq, Eq)]
 pub enum Task {
-    /// An operation on the files' matrices, over a semiring.
-    Operation(Operation, SemiringName),
-    /// A selection from the files' matrices, over a semiring.
-    Selection(SelectionTask, SemiringName),
+    /// What is computed of the files' matrices, over a semiring.
+    Compute(Computation, SemiringName),
+    /// The listed rows and columns of the first file's matrix, over a semiring. The other files have the lists.
+    Extract(Lists, SemiringName),
     /// A task on the graph of the first file's matrix, which is read over the semiring of the task. The second file, if there is
     /// one, lists sources, or has initial values and is read in min-plus.
     Graph(GraphTask),
-}
-
-/// What is selected from the files' matrices. Rows and columns are counted from 0.
-#[derive(Clone, Copy, PartialEq, Eq)]
-pub enum SelectionTask {
-    /// A selection from the files' matrices.
-    Selected(Selection),
-    /// The listed rows and columns of the first matrix. The other files have the lists.
-    Extract(Lists),
 }
 
 /// Whether a semiring is one in the sense of algebra, whose product distributes over its sum.

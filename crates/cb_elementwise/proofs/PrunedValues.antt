@@ -8,7 +8,7 @@ use Rattle.cb_matrix.specs.Passing.{passes}
 use Rattle.cb_matrix.specs.Operations.{pruned}
 use Rattle.cb_matrix.proofs.Made.{same_matrix_of}
 use Rattle.cb_elementwise.specs.RuleLaws.{unless_passes}
-use Rattle.cb_operations.specs.Selected.{of_stored, replaced}
+use Rattle.cb_operations.specs.SelectionAnswers.{of_stored, replaced}
 use Rattle.cb_elementwise.proofs.ReplacedColumn.{of_stored-some, of_stored-none}
 
 zero_either : (z : ℕ) (b : Bool) → cond b z z ≡ z

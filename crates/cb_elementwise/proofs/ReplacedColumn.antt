@@ -10,7 +10,7 @@ use Rattle.cb_dcsc.specs.Columns.{row_value}
 use Rattle.cb_product.specs.SparseColumn.{IsSparseColumn}
 use Rattle.cb_product.proofs.ColumnSoFar.{kept_column}
 use Rattle.cb_product.proofs.RowValues.{absent_above, row_value-push, row_value-none}
-use Rattle.cb_operations.specs.Selected.{of_stored}
+use Rattle.cb_operations.specs.SelectionAnswers.{of_stored}
 
 -- of a value that is stored
 pub of_stored-some : (z : ℕ) (f : ℕ → ℕ) (x : ℕ) → x ≢ z → of_stored z f x ≡ f x

@@ -10,7 +10,7 @@ use Rattle.cb_product.specs.InColumns.{AreInColumns}
 use Rattle.cb_product.specs.SparseColumn.{IsSparseColumn}
 use Rattle.cb_product.proofs.ProductColumns.{own_column}
 use Rattle.cb_product.proofs.StoredColumn.{column_inside}
-use Rattle.cb_operations.specs.Selected.{of_stored}
+use Rattle.cb_operations.specs.SelectionAnswers.{of_stored}
 use Rattle.cb_product.proofs.ColumnsMade.{absent_value}
 use Rattle.cb_elementwise.proofs.ReplacedColumn.{of_stored-none}
 

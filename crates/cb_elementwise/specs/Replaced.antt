@@ -1,7 +1,7 @@
 -- Stored values replaced, row by row.
 use Rattle.std.specs.Prelude.{◌≡◌, ℕ, List}
 use Rattle.cb_dcsc.specs.Columns.{row_value}
-use Rattle.cb_operations.specs.Selected.{of_stored}
+use Rattle.cb_operations.specs.SelectionAnswers.{of_stored}
 
 -- the kept rows and values are a column with f i applied to the value stored at each row i
 abbrev pub IsReplaced : ℕ → (ℕ → ℕ → ℕ) → List ℕ → List ℕ → List ℕ → List ℕ → Type 0

@@ -14,7 +14,7 @@
 ghost use Rattle.std.specs.Prelude.{◌≡◌, ◌≢◌, ◌↔◌, ℕ, ◌<◌, ◌≤◌, ◌+◌, IsTrue, List, [], ◌∷◌, ◌++◌, length, All, IfOk, IfSome, IfNone, OnOk, OnErr};
 ghost use Rattle.cb_matrix.specs.Operations.{sum_of, times_of, pruned, masked};
 ghost use Rattle.cb_matrix.specs.Passing.{passes};
-ghost use Rattle.cb_operations.specs.Selected.{excluded};
+ghost use Rattle.cb_operations.specs.SelectionAnswers.{excluded};
 
 mod column_joins;
 mod joins;

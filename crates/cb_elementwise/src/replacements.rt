@@ -4,7 +4,7 @@ ghost use Rattle.cb_semirings.specs.Arithmetic.{IsValue};
 ghost use Rattle.cb_matrix.specs.Sparse.{IsMatrix};
 ghost use Rattle.cb_matrix.specs.Values.{empty_matrix};
 ghost use Rattle.cb_product.specs.SparseColumn.{IsSparseColumn};
-ghost use Rattle.cb_operations.specs.Selected.{replaced};
+ghost use Rattle.cb_operations.specs.SelectionAnswers.{replaced};
 ghost use Rattle.cb_elementwise.specs.Replaced.{IsReplaced};
 
 use crate::value_rules::ValueRule;

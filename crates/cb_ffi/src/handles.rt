@@ -12,12 +12,12 @@ use std::marker::Model;
 /// A kept matrix that C owns, or a place for one.
 #[repr(C)]
 #[derive(Drop)]
-pub struct Owned {
+pub struct OwnedMatrix {
     at: *mut u8,
     pub ghost kept: { Option (MutBor KeptValue) },
 }
 
-impl Model for Owned {
+impl Model for OwnedMatrix {
     ghost use Rattle.cb_ffi.specs.Handles.{owned_at};
 
     ghost also_owns = { λ h. owned_at h.at h.kept };
@@ -26,28 +26,28 @@ impl Model for Owned {
 /// A kept matrix that C passes to a call: nobody changes or frees it while the call runs.
 #[repr(C)]
 #[derive(Drop)]
-pub struct Lent {
+pub struct LentMatrix {
     at: *const u8,
     pub ghost kept: { Bor KeptValue },
 }
 
-impl Model for Lent {
+impl Model for LentMatrix {
     ghost use Rattle.cb_ffi.specs.Handles.{lent_at};
 
     ghost also_owns = { λ h. lent_at h.at h.kept };
 }
 
 /// Hands a kept matrix to C.
-pub(crate) fn hand_out(kept: &'static mut KeptMatrix) -> Owned
+pub(crate) fn hand_out(kept: &'static mut KeptMatrix) -> OwnedMatrix
     ensures { result.kept ≡ Some kept.entry }
 {
-    Owned {
+    OwnedMatrix {
         at: kept as *mut KeptMatrix as *mut u8,
     }
 }
 
 /// Takes a kept matrix back from C.
-pub(crate) fn take_back(owned: Owned) -> &'static mut KeptMatrix
+pub(crate) fn take_back(owned: OwnedMatrix) -> &'static mut KeptMatrix
     requires { IsSome owned.kept }
     ensures { owned.kept ≡ Some result }
 {
@@ -55,14 +55,14 @@ pub(crate) fn take_back(owned: Owned) -> &'static mut KeptMatrix
 }
 
 /// The kept matrix that C passes, with its transpose if that is kept.
-pub(crate) fn borrowed_with_transpose(lent: Lent) -> &'static KeptMatrix
+pub(crate) fn borrowed_with_transpose(lent: LentMatrix) -> &'static KeptMatrix
     ensures { result ≡ lent.kept }
 {
     unsafe { &*(lent.at as *const KeptMatrix) }
 }
 
 /// The kept matrix that C passes.
-pub(crate) fn borrowed(lent: Lent) -> &'static Kept
+pub(crate) fn borrowed(lent: LentMatrix) -> &'static Kept
     ensures { result.now ≡ lent.kept.now }
 {
     borrowed_with_transpose(lent).matrix()

@@ -1,10 +1,10 @@
 //! The kernel for programs in C: computations on kept sparse matrices.
 //!
-//! A kept matrix ([`Owned`], [`Lent`]) is a matrix over one semiring, behind an opaque pointer, in a panel for each thread that
-//! made some of it. A call takes kept matrices, reads a single panel where it is and most of several from a copy in one block,
-//! and writes a new kept matrix to `out`. It returns 0 if it has written its result.
-//! Otherwise it returns the number of the first fault ([`Fault::code`]) and leaves `out` as it was. It looks for all faults
-//! before it takes memory, except for those of a text, which it finds while it reads.
+//! A kept matrix ([`OwnedMatrix`], [`LentMatrix`]) is a matrix over one semiring, behind an opaque pointer, in a panel for
+//! each thread that made some of it. A call takes kept matrices, reads a single panel where it is and most of several from
+//! a copy in one block, and writes a new kept matrix to `out`. It returns 0 if it has written its result. Otherwise it
+//! returns the number of the first fault ([`Fault::code`]) and leaves `out` as it was. It looks for all faults before it
+//! takes memory, except for those of a text, which it finds while it reads.
 //!
 //! A kept matrix is made of lists in compressed columns ([`Columns`]), which a call reads and neither changes nor keeps, of
 //! triples or of a text. The lists and the text of a kept matrix belong to the caller. Each list that isn't empty is memory
@@ -33,7 +33,7 @@ ghost use Rattle.cb_kept.specs.KeptSums.{sum_of};
 ghost use Rattle.cb_kept.specs.Refusals.{code_of, IsMemory, first_over};
 ghost use Rattle.cb_kept.specs.Kept.{matrix_in, semiring_of};
 ghost use Rattle.cb_kept.specs.KeptAnswers.{IsSummary};
-ghost use Rattle.cb_kept.specs.KeptGraphs.{graph_task_of};
+ghost use Rattle.cb_kept_graphs.specs.KeptGraphs.{graph_task_of};
 ghost use Rattle.cb_kept.specs.KeptSums.{IsTotal};
 ghost use Rattle.cb_kept.specs.KeptUpdates.{operands_of, write_back_of};
 ghost use Rattle.cb_kept.specs.KeptTexts.{IsKeptText};
@@ -44,16 +44,16 @@ ghost use Rattle.cb_ffi.specs.KeptCalls.{HasHandedOut, HasWritten, IsAddCall, Is
 mod handles;
 
 use cb_kept::{
-    Fault, Kept, KeptAnswer, KeptMatrix, Summary, Sums, Text, Triple, first_outside, graph_task_of,
+    Fault, Kept, KeptMatrix, KeptText, Summary, Sums, Triple, columns_of, first_outside,
     keep_lists, keep_triples, kept_add_share, kept_column_of_sums, kept_computation, kept_ends,
-    kept_entry_ends, kept_extract, kept_graph, kept_join, kept_share_of_sum, kept_total,
-    kept_turned_product, kept_update, lists_of, misfit_of_lists, misfit_of_triples, read_kept,
-    sum_of, summary_of, text_of, value_at, write_back_of,
+    kept_entry_ends, kept_extract, kept_join, kept_share_of_sum, kept_total, kept_turned_product,
+    kept_update, misfit_of_lists, misfit_of_triples, read_kept, sum_of, summary_of, text_of,
+    value_at, write_back_of,
 };
+use cb_kept_graphs::{KeptAnswer, graph_task_of, kept_graph};
 use cb_lists::Columns;
 use cb_operations::{Choice, Computation, Operation};
-use cb_selections::WriteBack;
-pub use handles::{Lent, Owned};
+pub use handles::{LentMatrix, OwnedMatrix};
 use handles::{borrowed, borrowed_with_transpose, hand_out, take_back};
 use std::alloc::Global;
 
@@ -72,7 +72,7 @@ fn put<T: Copy>(out: &mut T, answer: Result<T, Fault>) -> u32
 }
 
 /// Hands a kept matrix to C, or returns the number of the fault. Takes one allocation.
-fn put_kept(alloc: Global, out: &mut Owned, answer: Result<Kept, Fault>) -> u32
+fn put_kept(alloc: Global, out: &mut OwnedMatrix, answer: Result<Kept, Fault>) -> u32
     ensures ok { IfOk answer (HasHandedOut result out.old out.new) }
     ensures refused { IfErr answer (λ f. (result ≡ code_of f) × (result ≢ 0) × (out.new ≡ out.old)) }
 {
@@ -93,7 +93,7 @@ fn put_kept(alloc: Global, out: &mut Owned, answer: Result<Kept, Fault>) -> u32
 /// returns the number of the fault.
 fn put_answer(
     alloc: Global,
-    out: &mut Owned,
+    out: &mut OwnedMatrix,
     count: &mut u64,
     answer: Result<KeptAnswer, Fault>,
 ) -> u32
@@ -134,7 +134,7 @@ fn computation_kept(
     given: &[&Kept],
     first: u32,
     end: u32,
-    out: &mut Owned,
+    out: &mut OwnedMatrix,
 ) -> u32
     requires { count_of computation ≤ length given.now }
     ensures { IsComputationCall computation first end (lent_in given.now) result out.old out.new }
@@ -144,39 +144,7 @@ fn computation_kept(
     put_kept(alloc, out, answer)
 }
 
-/// Keeps a product of two kept matrices of which each may be transposed first, or returns the number of the fault.
-fn multiply_kept(
-    alloc: Global,
-    left: &Kept,
-    turn_left: bool,
-    right: &Kept,
-    turn_right: bool,
-    out: &mut Owned,
-) -> u32
-    ensures { IsTurnedCall turn_left turn_right left.now right.now result out.old out.new }
-{
-    let answer = kept_turned_product(alloc, left, turn_left, right, turn_right);
-    put_kept(alloc, out, answer)
-}
-
-/// Keeps columns of an updated matrix, or returns the number of the fault.
-fn update_kept(
-    alloc: Global,
-    how: Option<WriteBack>,
-    old: &Kept,
-    new: &Kept,
-    mask: Option<&Kept>,
-    first: u32,
-    end: u32,
-    out: &mut Owned,
-) -> u32
-    ensures { IsUpdateCall how first end (operands_of old.now new.now (option_copied mask.entry)) result out.old out.new }
-{
-    let answer = kept_update(alloc, how, old, new, mask, first, end);
-    put_kept(alloc, out, answer)
-}
-
-/// Writes where the ranges of a product's columns end, or returns the number of the fault.
+/// Writes where ranges of columns end, or returns the number of the fault.
 fn put_ends(ends: &mut [u32], answer: Result<Vec<u32>, Fault>) -> u32
     requires { IfOk answer (λ made. length made.items ≡ length ends.old) }
     ensures ok { IfOk answer (λ made. (result ≡ 0) × (ends.new ≡ made.items)) }
@@ -189,22 +157,6 @@ fn put_ends(ends: &mut [u32], answer: Result<Vec<u32>, Fault>) -> u32
         }
         Err(fault) => fault.code(),
     }
-}
-
-/// Divides the columns of a product into as many ranges as C has places for, or returns the number of the fault.
-fn ends_kept(alloc: Global, left: &Kept, right: &Kept, ends: &mut [u32]) -> u32
-    ensures { IsProductEndsCall left.now right.now result ends.old ends.new }
-{
-    let answer = kept_ends(alloc, left, right, ends.len());
-    put_ends(ends, answer)
-}
-
-/// Divides the columns of two matrices into as many ranges as C has places for, or returns the number of the fault.
-fn entry_ends_kept(alloc: Global, a: &Kept, b: &Kept, ends: &mut [u32]) -> u32
-    ensures { IsEntryEndsCall a.now b.now result ends.old ends.new }
-{
-    let answer = kept_entry_ends(alloc, a, b, ends.len());
-    put_ends(ends, answer)
 }
 
 /// Lists what some columns of the first of kept matrices add to the result of an operation, or returns the number of the fault.
@@ -225,30 +177,13 @@ fn share_kept(
     put(out, answer)
 }
 
-/// Adds a list to another, or returns the number of the fault.
-fn add_kept(like: &Kept, sums: &mut [u64], more: &[u64]) -> u32
-    ensures { IsAddCall like.now more.now result sums.old sums.new }
-{
-    match kept_add_share(like, sums, more) {
-        Ok(()) => 0,
-        Err(fault) => fault.code(),
-    }
-}
-
-/// Keeps the column of a list, or returns the number of the fault.
-fn column_kept(alloc: Global, like: &Kept, list: &[u64], out: &mut Owned) -> u32
-    ensures { IsColumnCall like.now list.now result out.old out.new }
-{
-    put_kept(alloc, out, kept_column_of_sums(alloc, like, list))
-}
-
 /// Joins two panels where the first of them is, and frees what the second keeps of its lists; or frees the lists of both and
 /// returns the number of the fault.
 fn join_kept(
     alloc: Global,
     front: &'static mut KeptMatrix,
     back: &'static mut KeptMatrix,
-    out: &mut Owned,
+    out: &mut OwnedMatrix,
 ) -> u32
     ensures { IsJoinCall front.old back.old result out.old out.new }
 {
@@ -267,7 +202,7 @@ fn join_kept(
 }
 
 /// Keeps the transpose of a matrix beside it, where it is, or returns the number of the fault.
-fn keep_transpose(alloc: Global, kept: &'static mut KeptMatrix, out: &mut Owned) -> u32
+fn keep_transpose(alloc: Global, kept: &'static mut KeptMatrix, out: &mut OwnedMatrix) -> u32
     ensures { IsTransposeCall kept.old result out.new }
 {
     let done = kept.keep_transpose(alloc);
@@ -284,7 +219,7 @@ pub extern "C" fn cbgrid_kernel_keep(
     alloc: Global,
     semiring: u32,
     a: &Columns,
-    out: &mut Owned,
+    out: &mut OwnedMatrix,
 ) -> u32
     ensures { IsKeepCall semiring a.now result out.old out.new }
 {
@@ -298,12 +233,12 @@ pub extern "C" fn cbgrid_kernel_keep(
 pub extern "C" fn cbgrid_kernel_computation(
     alloc: Global,
     choice: &Choice,
-    a: Lent,
-    b: Lent,
-    c: Lent,
+    a: LentMatrix,
+    b: LentMatrix,
+    c: LentMatrix,
     first: u32,
     end: u32,
-    out: &mut Owned,
+    out: &mut OwnedMatrix,
 ) -> u32
     ensures { IsChoiceCall choice.now first end (a.kept.now ∷ b.kept.now ∷ c.kept.now ∷ []) result out.old out.new }
 {
@@ -324,14 +259,14 @@ fn unless_all(all: u32, numbers: &[u32]) -> Option<&[u32]>
 #[unsafe(no_mangle)]
 pub extern "C" fn cbgrid_kernel_kept_extract(
     alloc: Global,
-    a: Lent,
+    a: LentMatrix,
     all_rows: u32,
     rows: &[u32],
     all_columns: u32,
     columns: &[u32],
     first: u32,
     end: u32,
-    out: &mut Owned,
+    out: &mut OwnedMatrix,
 ) -> u32
     ensures { IsExtractCall (unless_all all_rows rows.now) (unless_all all_columns columns.now) first end a.kept.now result out.old out.new }
 {
@@ -345,26 +280,21 @@ pub extern "C" fn cbgrid_kernel_kept_extract(
 #[unsafe(no_mangle)]
 pub extern "C" fn cbgrid_kernel_kept_multiply_turned(
     alloc: Global,
-    a: Lent,
+    a: LentMatrix,
     turn_a: u32,
-    b: Lent,
+    b: LentMatrix,
     turn_b: u32,
-    out: &mut Owned,
+    out: &mut OwnedMatrix,
 ) -> u32
     ensures { IsTurnedCall (not (turn_a == 0)) (not (turn_b == 0)) a.kept.now b.kept.now result out.old out.new }
 {
-    multiply_kept(
-        alloc,
-        borrowed(a),
-        turn_a != 0,
-        borrowed(b),
-        turn_b != 0,
-        out,
-    )
+    let (a, b) = (borrowed(a), borrowed(b));
+    let answer = kept_turned_product(alloc, a, turn_a != 0, b, turn_b != 0);
+    put_kept(alloc, out, answer)
 }
 
 /// A mask, if there is one.
-fn if_masked(masked: u32, mask: Lent) -> Option<&'static Kept>
+fn if_masked(masked: u32, mask: LentMatrix) -> Option<&'static Kept>
     ensures { option_copied result ≡ if_masked masked mask.kept.now }
 {
     if masked == 0 {
@@ -379,25 +309,26 @@ fn if_masked(masked: u32, mask: Lent) -> Option<&'static Kept>
 #[unsafe(no_mangle)]
 pub extern "C" fn cbgrid_kernel_kept_update(
     alloc: Global,
-    a: Lent,
-    b: Lent,
+    a: LentMatrix,
+    b: LentMatrix,
     masked: u32,
-    mask: Lent,
+    mask: LentMatrix,
     flags: u32,
     first: u32,
     end: u32,
-    out: &mut Owned,
+    out: &mut OwnedMatrix,
 ) -> u32
     ensures { IsUpdateCall (write_back_of flags) first end (operands_of a.kept.now b.kept.now (if_masked masked mask.kept.now)) result out.old out.new }
 {
     let (how, a, b) = (write_back_of(flags), borrowed(a), borrowed(b));
     let allowed = if_masked(masked, mask);
-    update_kept(alloc, how, a, b, allowed, first, end, out)
+    let answer = kept_update(alloc, how, a, b, allowed, first, end);
+    put_kept(alloc, out, answer)
 }
 
 /// The semiring's sum of all values of a kept matrix in the columns from `first` up to, but not including, `end`.
 #[unsafe(no_mangle)]
-pub extern "C" fn cbgrid_kernel_kept_total(a: Lent, first: u32, end: u32) -> u64
+pub extern "C" fn cbgrid_kernel_kept_total(a: LentMatrix, first: u32, end: u32) -> u64
     ensures { IsTotal (arithmetic_of (semiring_of a.kept.now)) (matrix_in a.kept.now) first end result }
 {
     kept_total(borrowed(a), first, end)
@@ -413,9 +344,9 @@ pub extern "C" fn cbgrid_kernel_kept_graph(
     task: u32,
     source: u32,
     sources: &[u32],
-    values: Lent,
-    a: Lent,
-    out: &mut Owned,
+    values: LentMatrix,
+    a: LentMatrix,
+    out: &mut OwnedMatrix,
     count: &mut u64,
 ) -> u32
     ensures { IsGraphCall (graph_task_of task source) a.kept.now sources.now values.kept.now result (out.old, count.old) (out.new, count.new) }
@@ -434,7 +365,7 @@ pub extern "C" fn cbgrid_kernel_keep_triples(
     nrows: u32,
     ncols: u32,
     triples: &[Triple],
-    out: &mut Owned,
+    out: &mut OwnedMatrix,
 ) -> u32
     ensures { IsTriplesCall semiring nrows ncols triples.now result out.old out.new }
 {
@@ -450,7 +381,7 @@ pub extern "C" fn cbgrid_kernel_kept_read(
     semiring: u32,
     text: &[u8],
     line: &mut u64,
-    out: &mut Owned,
+    out: &mut OwnedMatrix,
 ) -> u32
     ensures call { IsReadCall semiring text.now result out.old out.new }
     ensures line { IsLine (first_over (numbered semiring) text.now) result line.old line.new }
@@ -461,7 +392,7 @@ pub extern "C" fn cbgrid_kernel_kept_read(
 
 /// Writes the Matrix Market text of a kept matrix.
 #[unsafe(no_mangle)]
-pub extern "C" fn cbgrid_kernel_kept_text(alloc: Global, a: Lent, out: &mut Text) -> u32
+pub extern "C" fn cbgrid_kernel_kept_text(alloc: Global, a: LentMatrix, out: &mut KeptText) -> u32
     ensures { IsCall IsMemory (IsKeptText (arithmetic_of (semiring_of a.kept.now)) a.kept.now) result out.old out.new }
 {
     put(out, text_of(alloc, borrowed(a)))
@@ -469,15 +400,15 @@ pub extern "C" fn cbgrid_kernel_kept_text(alloc: Global, a: Lent, out: &mut Text
 
 /// Copies the lists of a kept matrix. The copy belongs to the caller.
 #[unsafe(no_mangle)]
-pub extern "C" fn cbgrid_kernel_kept_lists(alloc: Global, a: Lent, out: &mut Columns) -> u32
+pub extern "C" fn cbgrid_kernel_kept_lists(alloc: Global, a: LentMatrix, out: &mut Columns) -> u32
     ensures { IsCall IsMemory (HasLists (matrix_in a.kept.now)) result out.old out.new }
 {
-    put(out, lists_of(alloc, borrowed(a)))
+    put(out, columns_of(alloc, borrowed(a)))
 }
 
 /// The shape of a kept matrix, its semiring and its number of entries.
 #[unsafe(no_mangle)]
-pub extern "C" fn cbgrid_kernel_kept_summary(a: Lent, out: &mut Summary)
+pub extern "C" fn cbgrid_kernel_kept_summary(a: LentMatrix, out: &mut Summary)
     ensures { IsSummary a.kept.now out.new }
 {
     *out = summary_of(borrowed(a));
@@ -485,7 +416,7 @@ pub extern "C" fn cbgrid_kernel_kept_summary(a: Lent, out: &mut Summary)
 
 /// The value of a kept matrix at a place: the semiring's zero if the place has no entry or is outside the shape.
 #[unsafe(no_mangle)]
-pub extern "C" fn cbgrid_kernel_kept_value(a: Lent, row: u32, column: u32) -> u64
+pub extern "C" fn cbgrid_kernel_kept_value(a: LentMatrix, row: u32, column: u32) -> u64
     ensures { result ≡ at (arithmetic_of (semiring_of a.kept.now)) (matrix_in a.kept.now) row column }
 {
     value_at(borrowed(a), row, column)
@@ -528,18 +459,19 @@ pub extern "C" fn cbgrid_kernel_first_outside(numbers: &[u32], bound: u32) -> u6
 pub extern "C" fn cbgrid_kernel_kept_ends(
     alloc: Global,
     by_products: u32,
-    a: Lent,
-    b: Lent,
+    a: LentMatrix,
+    b: LentMatrix,
     ends: &mut [u32],
 ) -> u32
     ensures { IsEndsCall by_products a.kept.now b.kept.now result ends.old ends.new }
 {
     let (a, b) = (borrowed(a), borrowed(b));
     if by_products == 0 {
-        entry_ends_kept(alloc, a, b, ends)
-    } else {
-        ends_kept(alloc, a, b, ends)
+        let by_entries = kept_entry_ends(alloc, a, b, ends.len());
+        return put_ends(ends, by_entries);
     }
+    let answer = kept_ends(alloc, a, b, ends.len());
+    put_ends(ends, answer)
 }
 
 /// Lists what the columns of a kept matrix from `first` up to, but not including, `end` add to the result of the operation of a
@@ -549,8 +481,8 @@ pub extern "C" fn cbgrid_kernel_kept_ends(
 pub extern "C" fn cbgrid_kernel_kept_share(
     alloc: Global,
     number: u32,
-    a: Lent,
-    x: Lent,
+    a: LentMatrix,
+    x: LentMatrix,
     first: u32,
     end: u32,
     out: &mut Sums,
@@ -564,23 +496,31 @@ pub extern "C" fn cbgrid_kernel_kept_share(
 /// Adds a share of a sum to that of the columns before it, over the semiring of a kept matrix: two lists of one length, or the
 /// sums of all values, as lists of a single number. At a fault nothing changes.
 #[unsafe(no_mangle)]
-pub extern "C" fn cbgrid_kernel_kept_add_share(like: Lent, sums: &mut [u64], more: &[u64]) -> u32
+pub extern "C" fn cbgrid_kernel_kept_add_share(
+    like: LentMatrix,
+    sums: &mut [u64],
+    more: &[u64],
+) -> u32
     ensures { IsAddCall like.kept.now more.now result sums.old sums.new }
 {
-    add_kept(borrowed(like), sums, more)
+    match kept_add_share(borrowed(like), sums, more) {
+        Ok(()) => 0,
+        Err(fault) => fault.code(),
+    }
 }
 
 /// Keeps the column that has the values of a list, one for each row of a kept matrix, over its semiring.
 #[unsafe(no_mangle)]
 pub extern "C" fn cbgrid_kernel_kept_column_of_sums(
     alloc: Global,
-    like: Lent,
+    like: LentMatrix,
     sums: &[u64],
-    out: &mut Owned,
+    out: &mut OwnedMatrix,
 ) -> u32
     ensures { IsColumnCall like.kept.now sums.now result out.old out.new }
 {
-    column_kept(alloc, borrowed(like), sums, out)
+    let answer = kept_column_of_sums(alloc, borrowed(like), sums);
+    put_kept(alloc, out, answer)
 }
 
 /// Joins two panels of a product: puts the entries of a kept matrix behind those of another, whose columns are all before its
@@ -589,9 +529,9 @@ pub extern "C" fn cbgrid_kernel_kept_column_of_sums(
 #[unsafe(no_mangle)]
 pub extern "C" fn cbgrid_kernel_kept_join(
     alloc: Global,
-    front: Owned,
-    back: Owned,
-    out: &mut Owned,
+    front: OwnedMatrix,
+    back: OwnedMatrix,
+    out: &mut OwnedMatrix,
 ) -> u32
     requires front { IsSome front.kept }
     requires back { IsSome back.kept }
@@ -603,7 +543,11 @@ pub extern "C" fn cbgrid_kernel_kept_join(
 /// Keeps the transpose of a kept matrix beside it, which searches from sources then use. Takes the matrix back and hands it
 /// out again, at the same pointer, also if memory for the transpose is refused. No other call may use the matrix meanwhile.
 #[unsafe(no_mangle)]
-pub extern "C" fn cbgrid_kernel_keep_transpose(alloc: Global, a: Owned, out: &mut Owned) -> u32
+pub extern "C" fn cbgrid_kernel_keep_transpose(
+    alloc: Global,
+    a: OwnedMatrix,
+    out: &mut OwnedMatrix,
+) -> u32
     requires { IsSome a.kept }
     ensures { IfSome a.kept (λ k. IsTransposeCall k.now result out.new) }
 {
@@ -612,7 +556,7 @@ pub extern "C" fn cbgrid_kernel_keep_transpose(alloc: Global, a: Owned, out: &mu
 
 /// Frees the lists of a kept matrix. The caller then frees the memory at the pointer.
 #[unsafe(no_mangle)]
-pub extern "C" fn cbgrid_kernel_release(alloc: Global, kept: Owned)
+pub extern "C" fn cbgrid_kernel_release(alloc: Global, kept: OwnedMatrix)
     requires { IsSome kept.kept }
 {
     take_back(kept).clear(alloc);

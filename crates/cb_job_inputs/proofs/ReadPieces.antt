@@ -27,24 +27,24 @@ cut_of s whole text header size line entries more side pieces all opening follow
 }
 
 -- a matrix of a text that was cut is on its grid
-pub some_side : (s : Arithmetic) (text : List ℕ) (side : ℕ) (plan : Reading) (pieces : List (List ℕ)) (o : Option Distributed) → IsCutOf s text side plan pieces → IfSome o (IsMatrixOf s plan pieces) → IfSome o (λ m. m.side ≡ side)
-some_side s text side plan pieces None cut h = tt
-some_side s text side plan pieces (Some m) cut h = cut.on_grid m h
+pub some_side : (s : Arithmetic) (text : List ℕ) (side : ℕ) (reading : Reading) (pieces : List (List ℕ)) (o : Option Distributed) → IsCutOf s text side reading pieces → IfSome o (IsMatrixOf s reading pieces) → IfSome o (λ m. m.side ≡ side)
+some_side s text side reading pieces None cut h = tt
+some_side s text side reading pieces (Some m) cut h = cut.on_grid m h
 
 -- places without pieces are in order
-pub none_in_order : (s : Arithmetic) (plan : Reading) (pieces : List (List ℕ)) (places : List (Option Part)) → length places ≡ length pieces → All (λ (o : Option Part). o ≡ None) places → AreInOrder s plan pieces places
-none_in_order s plan pieces places e none = record {
+pub none_in_order : (s : Arithmetic) (reading : Reading) (pieces : List (List ℕ)) (places : List (Option Part)) → length places ≡ length pieces → All (λ (o : Option Part). o ≡ None) places → AreInOrder s reading pieces places
+none_in_order s reading pieces places e none = record {
   count = e;
-  each = λ n d o l. subst (λ x. IfSome x (IsRead s plan (get_or pieces n d))) (sym (All-get_or (λ (x : Option Part). x ≡ None) places n o (omega (arith, l, e)) none)) tt;
+  each = λ n d o l. subst (λ x. IfSome x (IsRead s reading (get_or pieces n d))) (sym (All-get_or (λ (x : Option Part). x ≡ None) places n o (omega (arith, l, e)) none)) tt;
 }
 
-module _ (s : Arithmetic) (plan : Reading) (pieces : List (List ℕ)) (places : List (Option Part)) (order : AreInOrder s plan pieces places) where
+module _ (s : Arithmetic) (reading : Reading) (pieces : List (List ℕ)) (places : List (Option Part)) (order : AreInOrder s reading pieces places) where
   -- the piece in the only place
-  pub only_read : (o : Option Part) → length pieces < 2 → 0 < length places → o ≡ get_or places 0 o → IfSome o (IsRead s plan (in_a_row pieces))
+  pub only_read : (o : Option Part) → length pieces < 2 → 0 < length places → o ≡ get_or places 0 o → IfSome o (IsRead s reading (in_a_row pieces))
   only_read o few some e =
       let inside : 0 < length pieces = omega (arith, some, order.count) in
-      subst (λ t. IfSome o (IsRead s plan t)) (sym (only_row pieces [] few inside))
-      (subst (λ x. IfSome x (IsRead s plan (get_or pieces 0 []))) (sym e) (order.each 0 [] o inside))
+      subst (λ t. IfSome o (IsRead s reading t)) (sym (only_row pieces [] few inside))
+      (subst (λ x. IfSome x (IsRead s reading (get_or pieces 0 []))) (sym e) (order.each 0 [] o inside))
 
   module _ (a b : List (List ℕ)) (pa pb : List (Option Part)) (cut : a ++ b ≡ pieces) (both : pa ++ pb ≡ places) (same : length pa ≡ length a) where
     count : length a + length b ≡ length pieces
@@ -54,20 +54,20 @@ module _ (s : Arithmetic) (plan : Reading) (pieces : List (List ℕ)) (places : 
     counts = sym (length-append pa pb) ∙ ap length both
 
     -- the first places are in order
-    pub order_front : AreInOrder s plan a pa
+    pub order_front : AreInOrder s reading a pa
     order_front = record {
       count = same;
       each = λ n d o l.
-          subst (λ t. IfSome (get_or pa n o) (IsRead s plan t)) (sym (ap (λ xs. get_or xs n d) cut) ∙ get_or_append_left a b d n l)
-          (subst (λ x. IfSome x (IsRead s plan (get_or pieces n d))) (sym (ap (λ xs. get_or xs n o) both) ∙ get_or_append_left pa pb o n (omega (arith, l, same))) (order.each n d o (omega (arith, l, count))));
+          subst (λ t. IfSome (get_or pa n o) (IsRead s reading t)) (sym (ap (λ xs. get_or xs n d) cut) ∙ get_or_append_left a b d n l)
+          (subst (λ x. IfSome x (IsRead s reading (get_or pieces n d))) (sym (ap (λ xs. get_or xs n o) both) ∙ get_or_append_left pa pb o n (omega (arith, l, same))) (order.each n d o (omega (arith, l, count))));
     }
 
     -- and the last
-    pub order_back : AreInOrder s plan b pb
+    pub order_back : AreInOrder s reading b pb
     order_back = record {
       count = omega (arith, count, counts, same, order.count);
       each = λ n d o l.
           let k = length a + n in
-          subst (λ t. IfSome (get_or pb n o) (IsRead s plan t)) (sym (ap (λ xs. get_or xs k d) cut) ∙ get_or-append_right a b (length a) k d refl (omega arith) ∙ ap (λ j. get_or b j d) (omega arith))
-          (subst (λ x. IfSome x (IsRead s plan (get_or pieces k d))) (sym (ap (λ xs. get_or xs k o) both) ∙ get_or-append_right pa pb (length a) k o same (omega arith) ∙ ap (λ j. get_or pb j o) (omega arith)) (order.each k d o (omega (arith, l, count))));
+          subst (λ t. IfSome (get_or pb n o) (IsRead s reading t)) (sym (ap (λ xs. get_or xs k d) cut) ∙ get_or-append_right a b (length a) k d refl (omega arith) ∙ ap (λ j. get_or b j d) (omega arith))
+          (subst (λ x. IfSome x (IsRead s reading (get_or pieces k d))) (sym (ap (λ xs. get_or xs k o) both) ∙ get_or-append_right pa pb (length a) k o same (omega arith) ∙ ap (λ j. get_or pb j o) (omega arith)) (order.each k d o (omega (arith, l, count))));
     }

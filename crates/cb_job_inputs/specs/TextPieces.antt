@@ -16,7 +16,7 @@ pub record Reading : Type 0 where
 
 -- what is read of these lines
 abbrev pub IsRead : Arithmetic → Reading → List ℕ → Part → Type 0
-IsRead s plan text p = IsPart s plan.header plan.size.shape plan.side text p
+IsRead s reading text p = IsPart s reading.header reading.size.shape reading.side text p
 
 -- pieces, one after the other
 abbrev pub in_a_row : List (List ℕ) → List ℕ
@@ -28,16 +28,16 @@ AreCut pieces = (n : ℕ) (d : List ℕ) → n + 1 < length pieces → is_whole 
 
 -- This is the matrix of what is read of some pieces, where as many lines had an entry as are announced.
 abbrev pub IsMatrixOf : Arithmetic → Reading → List (List ℕ) → Distributed → Type 0
-IsMatrixOf s plan pieces m =
-    (p : Part) × IsRead s plan (in_a_row pieces) p × (p.lines ≡ plan.size.count) × (m ≡ record { side = p.side; matrix = collected s p.shape p.entries })
+IsMatrixOf s reading pieces m =
+    (p : Part) × IsRead s reading (in_a_row pieces) p × (p.lines ≡ reading.size.count) × (m ≡ record { side = p.side; matrix = collected s p.shape p.entries })
 
 -- A text was cut in pieces: each but the last ends with a line, and a matrix of what is read of them is what the text reads as.
-pub record IsCutOf (s : Arithmetic) (text : List ℕ) (side : ℕ) (plan : Reading) (pieces : List (List ℕ)) : Type 0 where
+pub record IsCutOf (s : Arithmetic) (text : List ℕ) (side : ℕ) (reading : Reading) (pieces : List (List ℕ)) : Type 0 where
   pub ends : AreCut pieces
-  pub reads : (m : Distributed) → IsMatrixOf s plan pieces m → Reads s text m.matrix
-  pub on_grid : (m : Distributed) → IsMatrixOf s plan pieces m → m.side ≡ side
+  pub reads : (m : Distributed) → IsMatrixOf s reading pieces m → Reads s text m.matrix
+  pub on_grid : (m : Distributed) → IsMatrixOf s reading pieces m → m.side ≡ side
 
 -- in each place is what is read of the piece with the same number, or nothing
-pub record AreInOrder (s : Arithmetic) (plan : Reading) (pieces : List (List ℕ)) (places : List (Option Part)) : Type 0 where
+pub record AreInOrder (s : Arithmetic) (reading : Reading) (pieces : List (List ℕ)) (places : List (Option Part)) : Type 0 where
   pub count : length places ≡ length pieces
-  pub each : (n : ℕ) (d : List ℕ) (e : Option Part) → n < length pieces → IfSome (get_or places n e) (IsRead s plan (get_or pieces n d))
+  pub each : (n : ℕ) (d : List ℕ) (e : Option Part) → n < length pieces → IfSome (get_or places n e) (IsRead s reading (get_or pieces n d))

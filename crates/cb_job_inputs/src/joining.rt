@@ -3,7 +3,7 @@ ghost use Rattle.std.specs.Prelude.{◌<◌, ◌≤◌, IfSome, length};
 ghost use Rattle.std.specs.Thread.{IsSync};
 ghost use Rattle.cb_job_inputs.specs.TextPieces.{AreCut, AreInOrder, IsRead, in_a_row};
 
-use crate::pieces::{Cut, Lines, Plan};
+use crate::pieces::{Cut, Lines, Reading};
 use crate::places::Places;
 use cb_market::Piece;
 use cb_semirings::Semiring;
@@ -16,15 +16,15 @@ pub(crate) fn join_places<S: Semiring + Send + Sync, R: Threads + Sync>(
     mut places: Places<S>,
 ) -> Option<Piece<S>>
     requires ends { AreCut cut.now.pieces.items }
-    requires order { AreInOrder S.arithmetic cut.now.plan cut.now.pieces.items places.items }
-    ensures { IfSome result (IsRead S.arithmetic cut.now.plan (in_a_row cut.now.pieces.items)) }
+    requires order { AreInOrder S.arithmetic cut.now.reading cut.now.pieces.items places.items }
+    ensures { IfSome result (IsRead S.arithmetic cut.now.reading (in_a_row cut.now.pieces.items)) }
 {
     for number in 0..places.len() {
         if places[number].is_none() {
             places[number] = Some(cut.read::<S>(number)?);
         }
     }
-    join_all(rt, &cut.plan, cut.in_turn(), &cut.pieces, &mut places)
+    join_all(rt, &cut.reading, cut.in_turn(), &cut.pieces, &mut places)
 }
 
 /// How many of this many pieces, at least two, are joined before the others are appended to them: all but the last, if they are
@@ -62,32 +62,32 @@ fn half_of(count: usize) -> usize
 #[cycle(pieces)]
 fn join_all<S: Semiring + Send + Sync, R: Threads + Sync>(
     rt: &R,
-    plan: &Plan,
+    reading: &Reading,
     in_turn: usize,
     pieces: &[Lines<'_>],
     places: &mut [Option<Piece<S>>],
 ) -> Option<Piece<S>>
     requires ends { AreCut pieces.now }
-    requires order { AreInOrder S.arithmetic plan.now pieces.now places.old }
-    ensures { IfSome result (IsRead S.arithmetic plan.now (in_a_row pieces.now)) }
+    requires order { AreInOrder S.arithmetic reading.now pieces.now places.old }
+    ensures { IfSome result (IsRead S.arithmetic reading.now (in_a_row pieces.now)) }
 {
     if pieces.len() < 2 {
-        return only(plan, pieces, places);
+        return only(reading, pieces, places);
     }
     let half = first_part(pieces.len(), in_turn);
     let (front, back) = pieces.split_at(half);
     let (front_places, back_places) = places.split_at_mut(half);
-    let (front, back) = join_halves(rt, plan, in_turn, front, front_places, back, back_places);
+    let (front, back) = join_halves(rt, reading, in_turn, front, front_places, back, back_places);
     let front = front?;
     let back = back?;
-    front.append(rt, plan.alloc, back)
+    front.append(rt, reading.alloc, back)
 }
 
 /// Joins the first pieces, and the others: each by a thread of its own if these are several.
 #[cycle(pieces)]
 fn join_halves<S: Semiring + Send + Sync, R: Threads + Sync>(
     rt: &R,
-    plan: &Plan,
+    reading: &Reading,
     in_turn: usize,
     front: &[Lines<'_>],
     front_places: &mut [Option<Piece<S>>],
@@ -97,24 +97,24 @@ fn join_halves<S: Semiring + Send + Sync, R: Threads + Sync>(
     requires some { 0 < length front.now }
     requires others { 0 < length back.now }
     requires front_ends { AreCut front.now }
-    requires front_order { AreInOrder S.arithmetic plan.now front.now front_places.old }
+    requires front_order { AreInOrder S.arithmetic reading.now front.now front_places.old }
     requires back_ends { AreCut back.now }
-    requires back_order { AreInOrder S.arithmetic plan.now back.now back_places.old }
-    ensures front { IfSome result.0 (IsRead S.arithmetic plan.now (in_a_row front.now)) }
-    ensures back { IfSome result.1 (IsRead S.arithmetic plan.now (in_a_row back.now)) }
+    requires back_order { AreInOrder S.arithmetic reading.now back.now back_places.old }
+    ensures front { IfSome result.0 (IsRead S.arithmetic reading.now (in_a_row front.now)) }
+    ensures back { IfSome result.1 (IsRead S.arithmetic reading.now (in_a_row back.now)) }
 {
     if back.len() < 2 {
-        let first = join_all(rt, plan, in_turn, front, front_places);
-        return (first, join_all(rt, plan, in_turn, back, back_places));
+        let first = join_all(rt, reading, in_turn, front, front_places);
+        return (first, join_all(rt, reading, in_turn, back, back_places));
     }
     let mut there = || -> Option<Piece<S>>
-        requires { IsSync R.row × AreCut back.now × AreInOrder S.arithmetic plan.now back.now back_places.now }
-        ensures { IfSome result (IsRead S.arithmetic plan.entry.now (in_a_row back.entry.now)) }
-    { join_all(rt, plan, in_turn, back, back_places) };
+        requires { IsSync R.row × AreCut back.now × AreInOrder S.arithmetic reading.now back.now back_places.now }
+        ensures { IfSome result (IsRead S.arithmetic reading.entry.now (in_a_row back.entry.now)) }
+    { join_all(rt, reading, in_turn, back, back_places) };
     let mut here = || -> Option<Piece<S>>
-        requires { IsSync R.row × AreCut front.now × AreInOrder S.arithmetic plan.now front.now front_places.now }
-        ensures { IfSome result (IsRead S.arithmetic plan.entry.now (in_a_row front.entry.now)) }
-    { join_apart(rt, plan, in_turn, front, front_places) };
+        requires { IsSync R.row × AreCut front.now × AreInOrder S.arithmetic reading.now front.now front_places.now }
+        ensures { IfSome result (IsRead S.arithmetic reading.entry.now (in_a_row front.entry.now)) }
+    { join_apart(rt, reading, in_turn, front, front_places) };
     let (back, front) = join_mut(rt, &mut there, &mut here);
     (front, back)
 }
@@ -123,32 +123,32 @@ fn join_halves<S: Semiring + Send + Sync, R: Threads + Sync>(
 #[cycle(pieces)]
 fn join_apart<S: Semiring + Send + Sync, R: Threads + Sync>(
     rt: &R,
-    plan: &Plan,
+    reading: &Reading,
     in_turn: usize,
     pieces: &[Lines<'_>],
     places: &mut [Option<Piece<S>>],
 ) -> Option<Piece<S>>
     requires ends { AreCut pieces.now }
-    requires order { AreInOrder S.arithmetic plan.now pieces.now places.old }
-    ensures { IfSome result (IsRead S.arithmetic plan.now (in_a_row pieces.now)) }
+    requires order { AreInOrder S.arithmetic reading.now pieces.now places.old }
+    ensures { IfSome result (IsRead S.arithmetic reading.now (in_a_row pieces.now)) }
 {
     let mut there = || -> Option<Piece<S>>
-        requires { IsSync R.row × AreCut pieces.now × AreInOrder S.arithmetic plan.now pieces.now places.now }
-        ensures { IfSome result (IsRead S.arithmetic plan.entry.now (in_a_row pieces.entry.now)) }
-    { join_all(rt, plan, in_turn, pieces, places) };
+        requires { IsSync R.row × AreCut pieces.now × AreInOrder S.arithmetic reading.now pieces.now places.now }
+        ensures { IfSome result (IsRead S.arithmetic reading.entry.now (in_a_row pieces.entry.now)) }
+    { join_all(rt, reading, in_turn, pieces, places) };
     let (piece, ()) = join_mut(rt, &mut there, &mut || {});
     piece
 }
 
 /// Takes the only piece. None if there is none.
 fn only<S: Semiring>(
-    plan: &Plan,
+    reading: &Reading,
     pieces: &[Lines<'_>],
     places: &mut [Option<Piece<S>>],
 ) -> Option<Piece<S>>
     requires few { length pieces.now < 2 }
-    requires order { AreInOrder S.arithmetic plan.now pieces.now places.old }
-    ensures { IfSome result (IsRead S.arithmetic plan.now (in_a_row pieces.now)) }
+    requires order { AreInOrder S.arithmetic reading.now pieces.now places.old }
+    ensures { IfSome result (IsRead S.arithmetic reading.now (in_a_row pieces.now)) }
 {
     let place = places.get_mut(0)?;
     place.take()

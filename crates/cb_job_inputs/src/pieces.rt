@@ -42,14 +42,14 @@ impl Pieces {
 
 /// How the entries of a text are read.
 #[derive(Drop)]
-pub(crate) struct Plan {
+pub(crate) struct Reading {
     pub(crate) alloc: Global,
     grid: Grid,
     header: Header,
     size: Size,
 }
 
-impl Model for Plan {
+impl Model for Reading {
     ghost use Rattle.std.specs.Prelude.{IsTrue};
     ghost use Rattle.cb_market_lines.specs.Checks.{is_shape};
     ghost use Rattle.cb_job_inputs.specs.TextPieces.{Reading};
@@ -61,7 +61,7 @@ impl Model for Plan {
     ghost invariant = { λ p. IsTrue (is_shape p.header.symmetry p.size.shape) };
 }
 
-impl Plan {
+impl Reading {
     /// Returns how many blocks of the grid are side by side.
     fn side(&self) -> usize {
         self.grid.side() as usize
@@ -104,7 +104,7 @@ impl<'a> Model for Lines<'a> {
 /// The entries of a text in pieces.
 #[derive(Drop)]
 pub(crate) struct Cut<'a> {
-    pub(crate) plan: Plan,
+    pub(crate) reading: Reading,
     pub(crate) pieces: Vec<Lines<'a>>,
 }
 
@@ -117,13 +117,13 @@ impl<'a> Cut<'a> {
         pieces: Pieces,
         text: &'a Text,
     ) -> Option<Cut<'a>>
-        ensures { IfSome result (λ cut. IsCutOf S.arithmetic text.now grid.now.side cut.plan cut.pieces.items) }
+        ensures { IfSome result (λ cut. IsCutOf S.arithmetic text.now grid.now.side cut.reading cut.pieces.items) }
     {
         let (first, rest) = text.parts();
         let Some(opening) = Opening::of::<S>(first) else {
             return None;
         };
-        let plan = Plan {
+        let reading = Reading {
             alloc,
             grid: *grid,
             header: opening.header,
@@ -139,21 +139,21 @@ impl<'a> Cut<'a> {
         if pieces.len() < 2 {
             return None;
         }
-        Some(Cut { plan, pieces })
+        Some(Cut { reading, pieces })
     }
 
     /// Reads the piece with a number. It takes room for its entries and for those that will be appended to it.
     pub(crate) fn read<S: Semiring>(&self, number: usize) -> Option<Piece<S>>
         requires { number < length self.now.pieces.items }
-        ensures { IfSome result (λ p. (d : List ℕ) → IsRead S.arithmetic self.now.plan (get_or self.now.pieces.items number d) p) }
+        ensures { IfSome result (λ p. (d : List ℕ) → IsRead S.arithmetic self.now.reading (get_or self.now.pieces.items number d) p) }
     {
-        self.plan
+        self.reading
             .read::<S>(self.room(number), self.pieces[number].bytes)
     }
 
     /// Returns how many pieces are joined in turn: as many as have the entries of one column of blocks, if these are equal.
     pub(crate) fn in_turn(&self) -> usize {
-        self.pieces.len().div_ceil(self.plan.side().max(1))
+        self.pieces.len().div_ceil(self.reading.side().max(1))
     }
 
     /// Returns how many entries to take room for in the piece with a number: its own; and if others are joined to it, those of the
@@ -169,7 +169,7 @@ impl<'a> Cut<'a> {
         for piece in self.pieces.iter().skip(number).take(pieces) {
             bytes = bytes.saturating_add(piece.bytes.len());
         }
-        self.plan.room_for(bytes)
+        self.reading.room_for(bytes)
     }
 }
 

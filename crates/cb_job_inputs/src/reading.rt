@@ -101,12 +101,12 @@ fn matrix_of<S: Semiring + Send + Sync, R: Threads + Sync>(
     places: Places<S>,
 ) -> Option<DistributedMatrix<S>>
     requires ends { AreCut cut.now.pieces.items }
-    requires order { AreInOrder S.arithmetic cut.now.plan cut.now.pieces.items places.items }
-    ensures { IfSome result (IsMatrixOf S.arithmetic cut.now.plan cut.now.pieces.items) }
+    requires order { AreInOrder S.arithmetic cut.now.reading cut.now.pieces.items places.items }
+    ensures { IfSome result (IsMatrixOf S.arithmetic cut.now.reading cut.now.pieces.items) }
 {
     let whole = join_places(rt, cut, places)?;
-    if whole.lines() != cut.plan.announced() {
+    if whole.lines() != cut.reading.announced() {
         return None;
     }
-    whole.into_blocks(cut.plan.alloc).ok()
+    whole.into_blocks(cut.reading.alloc).ok()
 }

@@ -4,7 +4,7 @@ use Rattle.std.specs.Prelude.{Bool, Result, Ok, Err, OnOk, OnErr, String}
 use Rattle.std.specs.declared.alloc.Global.{Global}
 use Rattle.std.specs.Io.KnownBytes.{Appends, Keeps}
 use Rattle.cb_job_ends.specs.Sinks.{AppendsPrefix}
-use Rattle.cb_job_runs.specs.Files.{IsUnloaded}
+use Rattle.cb_job_files.specs.Files.{IsUnloaded}
 use Rattle.cb_job_runs.specs.Statuses.{status_code}
 use Rattle.cb_job_runs.specs.Endings.{IsEnding, IsJobEnding, IsPrinted, IsRun, IsTold, IsUsageEnding, ending_status, names_of, unloaded_ending}
 use Rattle.cb_command_line.specs.declared.jobs.Job.{Job}
@@ -12,8 +12,8 @@ use Rattle.cb_command_line.specs.declared.jobs.UsageFault.{UsageFault}
 use Rattle.cb_job_runs.specs.declared.endings.Ending.{Ending}
 use Rattle.cb_job_runs.specs.declared.endings.Status.{Status}
 use Rattle.cb_job_ends.specs.declared.faults.JobFault.{JobFault}
-use Rattle.cb_job_runs.specs.declared.files.LoadFault.{LoadFault}
-use Rattle.cb_job_runs.specs.declared.files.LoadFault.TheVariants.{Unreadable, Memory}
+use Rattle.cb_job_files.specs.declared.files.LoadFault.{LoadFault}
+use Rattle.cb_job_files.specs.declared.files.LoadFault.TheVariants.{Unreadable, Memory}
 
 -- what a put that may have failed has printed
 pub printed : {T E : Type 0} (r : Result T E) (old new : Option (List ℕ)) (has_failed : Bool) (text : List ℕ) → OnOk r (Appends old new text) → OnOk r (has_failed ≡ false)

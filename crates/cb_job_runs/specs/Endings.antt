@@ -3,14 +3,14 @@ use Rattle.std.specs.Prelude.{◌≡◌, ◌≢◌, ◌⊎◌, ℕ, List, [], Bo
 use Rattle.std.specs.declared.alloc.Global.{Global}
 use Rattle.std.specs.Io.KnownBytes.{Appends, Keeps}
 use Rattle.cb_job_ends.specs.Sinks.{AppendsPrefix}
-use Rattle.cb_job_runs.specs.Files.{AreTexts, IsUnloaded}
-use Rattle.cb_job_runs.specs.FaultLines.{name_at, line_of, unreadable_line_of}
+use Rattle.cb_job_files.specs.Files.{AreTexts, IsUnloaded, name_at}
+use Rattle.cb_job_runs.specs.FaultLines.{line_of, unreadable_line_of}
 use Rattle.cb_job_runs.specs.Statuses.{status_of, status_code}
 use Rattle.cb_command_line.specs.declared.jobs.Job.{Job}
 use Rattle.cb_command_line.specs.declared.jobs.UsageFault.{UsageFault}
 use Rattle.cb_command_line.specs.declared.jobs.UsageFault.TheVariants as asked_is
-use Rattle.cb_job_runs.specs.declared.files.LoadFault.{LoadFault}
-use Rattle.cb_job_runs.specs.declared.files.LoadFault.TheVariants as load_is
+use Rattle.cb_job_files.specs.declared.files.LoadFault.{LoadFault}
+use Rattle.cb_job_files.specs.declared.files.LoadFault.TheVariants as load_is
 use Rattle.cb_job_ends.specs.declared.faults.JobFault.{JobFault}
 use Rattle.cb_job_ends.specs.declared.faults.JobFault.TheVariants as job_is
 use Rattle.cb_job_runs.specs.declared.endings.Ending.{Ending}

@@ -1,14 +1,11 @@
 -- The lines that report faults.
-use Rattle.std.specs.Prelude.{ℕ, List, [], ◌++◌, ◌==◌, ◌||◌, nat_lt, cond, map, codes, decimal, String, string_bytes, unwrap_or, option_map, slice_get}
+use Rattle.std.specs.Prelude.{ℕ, List, ◌++◌, ◌==◌, ◌||◌, nat_lt, cond, map, codes, decimal, String}
 use Rattle.cb_job_ends.specs.declared.faults.JobFault.{JobFault}
 use Rattle.cb_job_ends.specs.declared.faults.JobFault.TheVariants.{Read, Refused, Ranks, Memory, Output, Absent}
 use Rattle.cb_market_lines.specs.Kinds.{kind_text}
 use Rattle.cb_operations.specs.RefusalTexts.{refusal_text}
+use Rattle.cb_job_files.specs.Files.{name_at}
 use Rattle.cb_rank_faults.specs.RanksFaults.{ranks_fault_text}
-
--- the name at a position, or an empty one
-abbrev pub name_at : {A : Type 0} → List (String A) → ℕ → List ℕ
-name_at names i = unwrap_or (option_map string_bytes (slice_get names i)) []
 
 -- the line of a text
 abbrev pub plain_line_of : List ℕ → List ℕ

@@ -4,12 +4,12 @@ ghost use Rattle.std.specs.Process.{exit_status};
 ghost use Rattle.cb_job_runs.specs.Endings.{message_of, ending_status, unloaded_ending, IsPrinted, IsTold, IsUsageEnding};
 ghost use Rattle.cb_job_runs.specs.Statuses.{status_code};
 
-use crate::fault_lines::{fault_line, name_at, unreadable_line};
-use crate::files::LoadFault;
+use crate::fault_lines::{fault_line, unreadable_line};
 use crate::statuses::status;
 use cb_command_line::UsageFault;
 use cb_job_ends::faults::JobFault;
 use cb_job_ends::sinks::{Sink, put_all};
+use cb_job_files::files::{LoadFault, name_at};
 use std::alloc::{AllocError, Global};
 use std::process::{ExitCode, Termination};
 

@@ -1,21 +1,12 @@
 //! The lines that report faults.
 ghost use Rattle.std.specs.Prelude.{◌≡◌, ◌++◌, IfOk, codes, string_bytes};
 ghost use Rattle.cb_rank_faults.specs.RanksFaults.{ranks_fault_text};
-ghost use Rattle.cb_job_runs.specs.FaultLines.{line_and_text, line_of, name_at, plain_line_of, read_line_of, shown, shown_byte, unreadable_line_of};
+ghost use Rattle.cb_job_runs.specs.FaultLines.{line_and_text, line_of, plain_line_of, read_line_of, shown, shown_byte, unreadable_line_of};
 
 use cb_job_ends::faults::JobFault;
+use cb_job_files::files::name_at;
 use cb_rank_faults::RanksFault;
 use std::alloc::{AllocError, Global};
-
-/// The name at this position, or an empty one.
-pub fn name_at(names: &[String], which: usize) -> &str
-    ensures { result.now ≡ name_at names.now which }
-{
-    match names.get(which) {
-        Some(name) => name.as_str(),
-        None => "",
-    }
-}
 
 /// The line of a text.
 fn line(alloc: Global, text: &str) -> Result<Vec<u8>, AllocError>

@@ -9,11 +9,11 @@ ghost use Rattle.cb_command_line.specs.declared.jobs.UsageFault.{UsageFault};
 ghost use Rattle.cb_job_runs.specs.Endings.{IsEnding, IsJobEnding, IsRun, names_of};
 
 use crate::endings::{Ending, Status, finish, unloaded, usage_ending};
-use crate::files::{FileSource, texts_of};
 use cb_command_line::{CommandLine, Job, UsageFault, asked};
 use cb_job_ends::faults::JobFault;
 use cb_job_ends::sinks::Sink;
 use cb_job_ends::texts::Text;
+use cb_job_files::files::{FileSource, texts_of};
 use std::alloc::Global;
 use std::thread::Threads;
 

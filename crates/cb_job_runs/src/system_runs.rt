@@ -1,9 +1,9 @@
 //! A run of a program on the system.
 use crate::endings::Status;
-use crate::files::FileSource;
 use crate::runs::{Program, run_on_line};
 use cb_command_line::SystemLine;
 use cb_job_ends::sinks::WriterSink;
+use cb_job_files::files::FileSource;
 use std::io;
 use std::io::Write;
 use std::rt::Env;

@@ -1,13 +1,15 @@
 //! Command lines, and the lines of faults.
 use cb_command_line::EngineName::{Plain, Ranks, Traced};
-use cb_command_line::SelectionTask::{Extract, Selected};
-use cb_command_line::{EngineName, Job, Lists, SelectionTask, Task, UsageFault, read_job};
+use cb_command_line::Task::{Compute, Extract};
+use cb_command_line::{EngineName, Job, Lists, Task, UsageFault, read_job};
 use cb_job_ends::faults::JobFault;
 use cb_job_runs::fault_lines::fault_line;
 use cb_job_runs::statuses::status;
 use cb_market::{Kind, ReadFault};
 use cb_matrix::Test;
-use cb_operations::{Diagonal, Function, GraphTask, Operation, Refusal, Region, Selection};
+use cb_operations::{
+    Computation, Diagonal, Function, GraphTask, Operation, Refusal, Region, Selection,
+};
 use cb_rank_faults::RanksFault;
 use cb_semirings::SemiringName;
 use cb_semirings::SemiringName::{MaxMin, MaxPlus, MinPlus, OrAnd, PlusTimes};
@@ -83,7 +85,7 @@ const OPERATIONS: &[(&str, (Operation, SemiringName, &str))] = &lines! {
 #[test]
 fn ask_for_operations(rt: HostRuntime) {
     for (line, (operation, semiring, files)) in OPERATIONS {
-        let task = Task::Operation(*operation, *semiring);
+        let task = Compute(Computation::Operation(*operation), *semiring);
         assert!(rt; asks_for(rt.alloc(), line, task, files), "{line}");
     }
 }
@@ -126,7 +128,10 @@ const REGIONS: &[(&str, (Region, SemiringName))] = &lines! {
 #[test]
 fn ask_for_regions(rt: HostRuntime) {
     for (line, (region, semiring)) in REGIONS {
-        let task = Task::Selection(Selected(Selection::Select(*region)), *semiring);
+        let task = Compute(
+            Computation::Selection(Selection::Select(*region)),
+            *semiring,
+        );
         assert!(rt; asks_for(rt.alloc(), line, task, "a"), "{line}");
     }
 }
@@ -143,42 +148,46 @@ const FUNCTIONS: &[(&str, (Function, SemiringName))] = &lines! {
 #[test]
 fn ask_for_functions(rt: HostRuntime) {
     for (line, (function, semiring)) in FUNCTIONS {
-        let task = Task::Selection(Selected(Selection::Apply(*function)), *semiring);
+        let task = Compute(
+            Computation::Selection(Selection::Apply(*function)),
+            *semiring,
+        );
         assert!(rt; asks_for(rt.alloc(), line, task, "a"), "{line}");
     }
 }
 
 /// Command lines that ask for any other selection over a semiring, and the files.
-const SELECTIONS: [(&str, (SelectionTask, SemiringName, &str)); 10] = lines! {
-    "diagonal a" => (Selected(Selection::Diagonal), PlusTimes, "a");
-    "diagonal --as matrix x --semiring min-plus" => (Selected(Selection::DiagonalMatrix), MinPlus, "x");
-    "power a --exponent 1" => (Selected(Selection::Power(NonZeroU32::MIN)), PlusTimes, "a");
-    "power --exponent=4294967295 a --semiring or-and" => (Selected(Selection::Power(NonZeroU32::MAX)), OrAnd, "a");
-    "kron a b --semiring max-min" => (Selected(Selection::Kronecker), MaxMin, "a b");
-    "assign a b --row 1 --column 2147483647" => (Selected(Selection::Assign((0, 2_147_483_646))), PlusTimes, "a b");
-    "assign --column=3 a --semiring max-min --row 2147483647 b" => (Selected(Selection::Assign((2_147_483_646, 2))), MaxMin, "a b");
-    "extract a --rows k" => (Extract(Lists::Rows), PlusTimes, "a k");
-    "extract --columns=l --semiring max-min a" => (Extract(Lists::Columns), MaxMin, "a l");
-    "extract --columns l a --semiring or-and --rows k" => (Extract(Lists::Both), OrAnd, "a k l");
+const SELECTIONS: [(&str, (Selection, SemiringName, &str)); 7] = lines! {
+    "diagonal a" => (Selection::Diagonal, PlusTimes, "a");
+    "diagonal --as matrix x --semiring min-plus" => (Selection::DiagonalMatrix, MinPlus, "x");
+    "power a --exponent 1" => (Selection::Power(NonZeroU32::MIN), PlusTimes, "a");
+    "power --exponent=4294967295 a --semiring or-and" => (Selection::Power(NonZeroU32::MAX), OrAnd, "a");
+    "kron a b --semiring max-min" => (Selection::Kronecker, MaxMin, "a b");
+    "assign a b --row 1 --column 2147483647" => (Selection::Assign((0, 2_147_483_646)), PlusTimes, "a b");
+    "assign --column=3 a --semiring max-min --row 2147483647 b" => (Selection::Assign((2_147_483_646, 2)), MaxMin, "a b");
 };
-
-/// The first of these command lines that doesn't ask for its selection.
-fn unasked(
-    alloc: Global,
-    lines: &[(&'static str, (SelectionTask, SemiringName, &str))],
-) -> Option<&'static str> {
-    for (line, (selection, semiring, files)) in lines {
-        if !asks_for(alloc, line, Task::Selection(*selection, *semiring), files) {
-            return Some(line);
-        }
-    }
-    None
-}
 
 #[test]
 fn ask_for_selections(rt: HostRuntime) {
-    let failed = unasked(rt.alloc(), &SELECTIONS);
-    assert!(rt; failed.is_none(), "{}", failed.unwrap_or(""));
+    for (line, (selection, semiring, files)) in &SELECTIONS {
+        let task = Compute(Computation::Selection(*selection), *semiring);
+        assert!(rt; asks_for(rt.alloc(), line, task, files), "{line}");
+    }
+}
+
+/// Command lines that ask for rows and columns by lists over a semiring, and the files.
+const EXTRACTS: &[(&str, (Lists, SemiringName, &str))] = &lines! {
+    "extract a --rows k" => (Lists::Rows, PlusTimes, "a k");
+    "extract --columns=l --semiring max-min a" => (Lists::Columns, MaxMin, "a l");
+    "extract --columns l a --semiring or-and --rows k" => (Lists::Both, OrAnd, "a k l");
+};
+
+#[test]
+fn ask_for_extracts(rt: HostRuntime) {
+    for (line, (lists, semiring, files)) in EXTRACTS {
+        let task = Extract(*lists, *semiring);
+        assert!(rt; asks_for(rt.alloc(), line, task, files), "{line}");
+    }
 }
 
 /// What a command line chooses with this many processors: the engine, the side of the grid, and how many threads may work.

@@ -1,6 +1,6 @@
 //! Files in memory of which each read gives a few bytes, of which a read fails, or that have changed their length.
-use cb_job_runs::loading::{FileFault, load, load_by};
-use cb_job_runs::stored::{StoredFile, Unreadable};
+use cb_job_files::loading::{FileFault, load, load_by};
+use cb_job_files::stored::{StoredFile, Unreadable};
 use std::alloc::{AllocError, Global};
 use std::test::Fail;
 use std::thread::Threads;

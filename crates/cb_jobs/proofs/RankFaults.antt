@@ -6,8 +6,7 @@ use Rattle.cb_semirings.specs.Tables.{min_plus}
 use Rattle.cb_matrix.specs.Sparse.{Sparse}
 use Rattle.cb_market_lines.specs.Reads.{Reads}
 use Rattle.cb_operations.specs.declared.graphs.GraphTask.{GraphTask}
-use Rattle.cb_operations.specs.declared.graphs.GraphTask.TheVariants.{Levels, Distances, LevelsFrom, DistancesFrom, LevelsGiven, DistancesGiven}
-use Rattle.cb_operations.specs.declared.graphs.GraphTask.TheVariants.{Parents, Components, Triangles, TriangleCounts, RowDegrees, ColumnDegrees}
+use Rattle.cb_operations.specs.declared.graphs.GraphTask.TheVariants.{Levels, Distances}
 use Rattle.cb_operations.specs.declared.operations.Operation.{Operation}
 use Rattle.cb_operations.specs.declared.refusals.Refusal.{Refusal}
 use Rattle.cb_operations.specs.declared.refusals.Refusal.TheVariants as refusal_is

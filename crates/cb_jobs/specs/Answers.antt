@@ -1,5 +1,5 @@
 -- The answers of jobs that ranks may compute, and the reasons why there is none.
-use Rattle.std.specs.Prelude.{ℕ, ◌≡◌, ◌⊎◌, ◌++◌, List, Option, Some, None}
+use Rattle.std.specs.Prelude.{ℕ, ◌≡◌, ◌⊎◌, ◌++◌, List, Option, Some}
 use Rattle.cb_semirings.specs.Arithmetic.{Arithmetic}
 use Rattle.cb_semirings.specs.Names.{arithmetic_of}
 use Rattle.cb_semirings.specs.Tables.{min_plus, or_and}
@@ -8,6 +8,7 @@ use Rattle.cb_market_lines.specs.Reads.{Reads}
 use Rattle.cb_market_pages.specs.Text.{text_of}
 use Rattle.cb_trace.specs.Traces.{TraceView}
 use Rattle.cb_operations.specs.declared.operations.Operation.{Operation}
+use Rattle.cb_operations.specs.declared.computations.Computation.{Computation}
 use Rattle.cb_operations.specs.declared.computations.Computation.TheVariants as computation_is
 use Rattle.cb_operations.specs.OperationAnswers.{Agree, answer_of, shapes_in}
 use Rattle.cb_rank_engines.specs.declared.engines.Engine.{Engine}
@@ -22,8 +23,8 @@ use Rattle.cb_command_line.specs.declared.tasks.Task.TheVariants as task_is
 use Rattle.cb_operations.specs.declared.graphs.GraphTask.{GraphTask}
 use Rattle.cb_operations.specs.declared.graphs.GraphTask.TheVariants.{Levels, Distances}
 use Rattle.cb_job_inputs.specs.Inputs.{AreMatrices}
-use Rattle.cb_job_operations.specs.ComputedTexts.{IsAnswerOver, IsFaultOver}
-use Rattle.cb_job_selections.specs.SelectionTexts.{IsSelectionAnswer, IsSelectionFault}
+use Rattle.cb_job_computations.specs.ComputedTexts.{IsAnswerOver, IsFaultOver}
+use Rattle.cb_job_computations.specs.Extracts.{IsExtractAnswer, IsExtractFault}
 use Rattle.cb_job_graphs.specs.GraphTasks.{IsGraphAnswer, IsGraphFault}
 use Rattle.cb_job_ends.specs.Texts.{text_at}
 use Rattle.cb_job_ends.specs.declared.faults.JobFault.{JobFault}
@@ -58,7 +59,8 @@ IsRunFailure operation s engine side texts fault =
 
 -- why there is none, or why it wasn't written: as without ranks; or the operands are right, and the ranks failed
 abbrev pub IsRanksFaultOver : Operation → Arithmetic → Engine → ℕ → List (List ℕ) → JobFault → Type 0
-IsRanksFaultOver operation s engine side texts fault = IsFaultOver (computation_is.Operation operation) s texts fault ⊎ IsRunFailure operation s engine side texts fault
+IsRanksFaultOver operation s engine side texts fault =
+    IsFaultOver (computation_is.Operation operation) s texts fault ⊎ IsRunFailure operation s engine side texts fault
 
 -- The text reads as a graph that has the source, and an engine may fail so in a search from there: the same.
 abbrev pub IsWalkFailure : Arithmetic → ℕ → Engine → ℕ → List (List ℕ) → JobFault → Type 0
@@ -70,15 +72,15 @@ IsWalkFailure s source engine side texts fault =
 abbrev pub IsRanksWalkFault : GraphTask → Arithmetic → ℕ → Engine → ℕ → List (List ℕ) → JobFault → Type 0
 IsRanksWalkFault task s source engine side texts fault = IsGraphFault task texts fault ⊎ IsWalkFailure s source engine side texts fault
 
--- the answer of an operation over a semiring, by an engine or without one
-abbrev pub IsOperationAnswer : Option Engine → ℕ → Operation → Arithmetic → List (List ℕ) → List ℕ → Type 0
-IsOperationAnswer None side operation s = IsAnswerOver (computation_is.Operation operation) s
-IsOperationAnswer (Some engine) side operation s = IsRanksAnswer operation s engine side
+-- the answer of a computation over a semiring: of an operation by an engine, if there is one, and otherwise without
+abbrev pub IsComputationAnswer : Option Engine → ℕ → Computation → Arithmetic → List (List ℕ) → List ℕ → Type 0
+IsComputationAnswer (Some engine) side (computation_is.Operation operation) s = IsRanksAnswer operation s engine side
+IsComputationAnswer _ side computation s = IsAnswerOver computation s
 
 -- why there is none
-abbrev pub IsOperationFault : Option Engine → ℕ → Operation → Arithmetic → List (List ℕ) → JobFault → Type 0
-IsOperationFault None side operation s = IsFaultOver (computation_is.Operation operation) s
-IsOperationFault (Some engine) side operation s = IsRanksFaultOver operation s engine side
+abbrev pub IsComputationFault : Option Engine → ℕ → Computation → Arithmetic → List (List ℕ) → JobFault → Type 0
+IsComputationFault (Some engine) side (computation_is.Operation operation) s = IsRanksFaultOver operation s engine side
+IsComputationFault _ side computation s = IsFaultOver computation s
 
 -- why a task on a graph has no answer, or why the answer wasn't written
 abbrev pub IsGraphFaultBy : Option Engine → ℕ → GraphTask → List (List ℕ) → JobFault → Type 0
@@ -89,14 +91,14 @@ IsGraphFaultBy _ side task = IsGraphFault task
 -- The answer of a task: by an engine on a grid of this side or, without one, by threads that share whole blocks. Only an
 -- operation may have a trace.
 abbrev pub IsAnswer : Option Engine → ℕ → Task → List (List ℕ) → List ℕ → Type 0
-IsAnswer engine side (task_is.Operation operation semiring) = IsOperationAnswer engine side operation (arithmetic_of semiring)
-IsAnswer engine side (task_is.Selection task semiring) = IsSelectionAnswer task (arithmetic_of semiring)
+IsAnswer engine side (task_is.Compute computation semiring) = IsComputationAnswer engine side computation (arithmetic_of semiring)
+IsAnswer engine side (task_is.Extract lists semiring) = IsExtractAnswer lists (arithmetic_of semiring)
 IsAnswer engine side (task_is.Graph task) = IsGraphAnswer task
 
 -- why it has no answer, or why the answer wasn't written
 abbrev pub IsFault : Option Engine → ℕ → Task → List (List ℕ) → JobFault → Type 0
-IsFault engine side (task_is.Operation operation semiring) = IsOperationFault engine side operation (arithmetic_of semiring)
-IsFault engine side (task_is.Selection task semiring) = IsSelectionFault task (arithmetic_of semiring)
+IsFault engine side (task_is.Compute computation semiring) = IsComputationFault engine side computation (arithmetic_of semiring)
+IsFault engine side (task_is.Extract lists semiring) = IsExtractFault lists (arithmetic_of semiring)
 IsFault engine side (task_is.Graph task) = IsGraphFaultBy engine side task
 
 -- the answer of a job: of its task, by the engine that it names

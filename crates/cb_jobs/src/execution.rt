@@ -1,10 +1,10 @@
 //! Does a job on the texts of its files.
-ghost use Rattle.std.specs.Prelude.{◌≡◌, vec_len, false};
+ghost use Rattle.std.specs.Prelude.{◌≡◌, vec_len, false, Some};
 ghost use Rattle.cb_operations.specs.Graphs.{operand_count_of};
-ghost use Rattle.cb_jobs.specs.JobEnds.{IsGraphAnsweredBy, IsJobEnd, IsSearchAnswered, IsSearchEnd};
+ghost use Rattle.cb_jobs.specs.Engines.{engine_of};
+ghost use Rattle.cb_jobs.specs.JobEnds.{IsGraphAnsweredBy, IsGraphEnd, IsJobEnd};
 
-use crate::job_operations::execute_operation;
-use crate::job_selections::execute_selection;
+use crate::job_computations::{execute_computation, execute_extract};
 use crate::ranks::{Ranks, ranks_of};
 use crate::searches_by_ranks::{distances_answer, levels_answer};
 use cb_command_line::{Job, Task};
@@ -29,7 +29,7 @@ fn ranks_graph_answer<R: Threads + Wait + Sync>(
     texts: Vec<Text>,
 ) -> Result<Answer<MinPlus>, JobFault>
     requires { vec_len texts ≡ operand_count_of task }
-    ensures { IsGraphAnsweredBy ranks.now task texts.items result }
+    ensures { IsGraphAnsweredBy (Some ranks.now.engine) ranks.now.grid.side task texts.items result }
 {
     match task {
         GraphTask::Levels { source } => levels_answer(rt, alloc, ranks, source, texts),
@@ -47,7 +47,7 @@ fn graph_answer_by<R: Threads + Wait + Sync>(
     texts: Vec<Text>,
 ) -> Result<Answer<MinPlus>, JobFault>
     requires { vec_len texts ≡ operand_count_of task }
-    ensures { IsSearchAnswered job.now task texts.items result }
+    ensures { IsGraphAnsweredBy (engine_of job.now.engine) job.now.side task texts.items result }
 {
     match ranks_of(job) {
         Some(ranks) => ranks_graph_answer(rt, alloc, &ranks, task, texts),
@@ -66,7 +66,7 @@ fn put_graph<R: Threads + Wait + Sync, K: Sink>(
 ) -> Result<(), JobFault>
     requires texts { vec_len texts ≡ operand_count_of task }
     requires works { K.has_failed out.old ≡ false }
-    ensures { IsSearchEnd job.now task texts.items (K.written out.old) (K.written out.new) (K.has_failed out.new) result }
+    ensures { IsGraphEnd job.now task texts.items (K.written out.old) (K.written out.new) (K.has_failed out.new) result }
 {
     let answer = graph_answer_by(rt, alloc, job, task, texts)?;
     put_answer(rt, alloc, job.threads, answer, out)
@@ -93,11 +93,11 @@ pub fn execute<R: Threads + Wait + Sync, K: Sink>(
     ensures { IsJobEnd job.now texts.items (K.written out.old) (K.written out.new) (K.has_failed out.new) result }
 {
     match job.task {
-        Task::Operation(operation, semiring) => {
-            execute_operation(rt, alloc, job, operation, semiring, texts, out)
+        Task::Compute(computation, semiring) => {
+            execute_computation(rt, alloc, job, computation, semiring, texts, out)
         }
-        Task::Selection(task, semiring) => {
-            execute_selection(rt, alloc, job.threads, task, semiring, texts, out)
+        Task::Extract(lists, semiring) => {
+            execute_extract(rt, alloc, job.threads, lists, semiring, texts, out)
         }
         Task::Graph(task) => put_graph(rt, alloc, job, task, texts, out),
     }

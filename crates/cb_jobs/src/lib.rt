@@ -7,8 +7,7 @@
 #![tactic(auto)]
 
 pub mod execution;
-mod job_operations;
-mod job_selections;
+mod job_computations;
 pub mod program;
 mod ranks;
 mod searches_by_ranks;

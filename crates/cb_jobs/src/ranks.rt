@@ -1,6 +1,5 @@
 //! The ranks that compute a job, and their faults.
-ghost use Rattle.std.specs.Prelude.{◌≡◌, ◌≢◌, IfSome, option_map};
-ghost use Rattle.cb_job_ends.specs.declared.faults.JobFault.TheVariants.{Output};
+ghost use Rattle.std.specs.Prelude.{◌≡◌, IfSome, option_map};
 ghost use Rattle.cb_jobs.specs.Engines.{engine_of, fault_of_operation};
 
 use cb_command_line::{EngineName, Job};

@@ -1,5 +1,5 @@
 //! Levels and distances of the vertices of a graph from a source, by ranks.
-ghost use Rattle.std.specs.Prelude.{◌≡◌, vec_len, IfOk};
+ghost use Rattle.std.specs.Prelude.{◌≡◌, vec_len, Some, IfOk};
 ghost use Rattle.cb_semirings.specs.Tables.{min_plus};
 ghost use Rattle.cb_market_pages.specs.Text.{vertex_text_of};
 ghost use Rattle.cb_operations.specs.declared.graphs.GraphTask.TheVariants as task_is;
@@ -37,7 +37,7 @@ pub fn levels_answer<R: Threads + Wait + Sync>(
     texts: Vec<Text>,
 ) -> Result<Answer<MinPlus>, JobFault>
     requires { vec_len texts ≡ 1 }
-    ensures { IsGraphAnsweredBy ranks.now (task_is.Levels source) texts.items result }
+    ensures { IsGraphAnsweredBy (Some ranks.now.engine) ranks.now.grid.side (task_is.Levels source) texts.items result }
 {
     let graph = read_one::<OrAnd, R>(rt, alloc, &ranks.grid, ranks.threads, texts)?;
     match levels(rt, alloc, ranks.engine, graph, source) {
@@ -55,7 +55,7 @@ pub fn distances_answer<R: Threads + Wait + Sync>(
     texts: Vec<Text>,
 ) -> Result<Answer<MinPlus>, JobFault>
     requires { vec_len texts ≡ 1 }
-    ensures { IsGraphAnsweredBy ranks.now (task_is.Distances source) texts.items result }
+    ensures { IsGraphAnsweredBy (Some ranks.now.engine) ranks.now.grid.side (task_is.Distances source) texts.items result }
 {
     let graph = read_one::<MinPlus, R>(rt, alloc, &ranks.grid, ranks.threads, texts)?;
     match distances(rt, alloc, ranks.engine, graph, source) {

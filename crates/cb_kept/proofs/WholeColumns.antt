@@ -13,7 +13,7 @@ use Rattle.cb_operations.specs.declared.operations.Operation.TheVariants.{Multip
 use Rattle.cb_operations.specs.declared.selections.Selection.TheVariants.{Power}
 use Rattle.cb_operations.specs.Computations.{answer_of}
 use Rattle.cb_operations.specs.OperationAnswers.{matrix_at}
-use Rattle.cb_operations.specs.Selected.{times_itself}
+use Rattle.cb_operations.specs.SelectionAnswers.{times_itself}
 use Rattle.cb_product.proofs.OnlyColumns.{among_holds, only_all}
 use Rattle.cb_shares.specs.Shares.{columns_from, panel}
 use Rattle.cb_shares.proofs.Ranges.{range_has}

@@ -28,12 +28,17 @@ operation_faults operation = refusal_faults (computation_is.Operation operation)
 abbrev pub IsCallOver : {X : Type 0} → (Arithmetic → List Sparse → Fault → Type 0) → (SemiringName → Arithmetic → List Sparse → X → Type 0) → SemiringName → Arithmetic → List Sparse → Result X Fault → Type 0
 IsCallOver faults gives name s ms = IsAnswer (faults s ms) (gives name s ms)
 
--- its faults on kept matrices: their semirings differ, or those over their semiring
-abbrev pub common_faults : (Arithmetic → List Sparse → Fault → Type 0) → List Kept → Fault → Type 0
-common_faults faults ks =
-    Unless (AreOver (semiring_in ks) ks) Mixed (faults (arithmetic_of (semiring_in ks)) (map matrix_in ks))
+-- its faults on kept matrices: they aren't over the semiring, or those over it
+abbrev pub kept_faults_over : SemiringName → Arithmetic → (Arithmetic → List Sparse → Fault → Type 0) → List Kept → Fault → Type 0
+kept_faults_over name s faults ks = Unless (AreOver name ks) Mixed (faults s (map matrix_in ks))
 
--- how it ends on kept matrices
+-- how it ends on kept matrices that have to be over a semiring
+abbrev pub IsCallOnKept : {X : Type 0} → (Arithmetic → List Sparse → Fault → Type 0) → (SemiringName → Arithmetic → List Sparse → X → Type 0) → SemiringName → Arithmetic → List Kept → Result X Fault → Type 0
+IsCallOnKept faults gives name s ks = IsAnswer (kept_faults_over name s faults ks) (gives name s (map matrix_in ks))
+
+-- the same of kept matrices that have to be over the semiring of the first
+abbrev pub common_faults : (Arithmetic → List Sparse → Fault → Type 0) → List Kept → Fault → Type 0
+common_faults faults ks = kept_faults_over (semiring_in ks) (arithmetic_of (semiring_in ks)) faults ks
+
 abbrev pub IsCallOverCommon : {X : Type 0} → (Arithmetic → List Sparse → Fault → Type 0) → (SemiringName → Arithmetic → List Sparse → X → Type 0) → List Kept → Result X Fault → Type 0
-IsCallOverCommon faults gives ks =
-    IsAnswer (common_faults faults ks) (gives (semiring_in ks) (arithmetic_of (semiring_in ks)) (map matrix_in ks))
+IsCallOverCommon faults gives ks = IsCallOnKept faults gives (semiring_in ks) (arithmetic_of (semiring_in ks)) ks

@@ -1,10 +1,12 @@
 -- A kept matrix: the entries of a block, over the semiring of a name.
-use Rattle.std.specs.Prelude.{◌≡◌, List, [], ◌∷◌, All}
+use Rattle.std.specs.Prelude.{◌≡◌, ◌≢◌, List, [], ◌∷◌, All}
 use Rattle.cb_semirings.specs.declared.names.SemiringName.{SemiringName}
 use Rattle.cb_semirings.specs.declared.names.SemiringName.TheVariants as name_is
 use Rattle.cb_semirings.specs.Names.{arithmetic_of}
 use Rattle.cb_matrix.specs.Sparse.{Sparse}
 use Rattle.cb_matrix.specs.Operations.{transposed}
+use Rattle.cb_kept.specs.declared.faults.Fault.{Fault}
+use Rattle.cb_kept.specs.declared.faults.Fault.TheVariants.{Mixed}
 use Rattle.cb_kept.specs.declared.kept.Kept.{Kept}
 use Rattle.cb_kept.specs.declared.kept.Kept.TheVariants.{PlusTimes, MinPlus, OrAnd, MaxMin, PlusPair, PlusMin, PlusFirst, PlusSecond, MinFirst, MinSecond, MaxFirst, MaxSecond, MaxPlus, MinMax}
 
@@ -46,6 +48,10 @@ matrix_in (MinMax m) = m
 pub record Keeps (name : SemiringName) (m : Sparse) (kept : Kept) : Type 0 where
   pub semiring : semiring_of kept ≡ name
   pub matrix : matrix_in kept ≡ m
+
+-- the fault of a kept matrix that has to be over a semiring, and isn't
+abbrev pub IsMixed : SemiringName → Kept → Fault → Type 0
+IsMixed name k f = (f ≡ Mixed) × (semiring_of k ≢ name)
 
 -- the semiring of the first of several
 abbrev pub semiring_in : List Kept → SemiringName

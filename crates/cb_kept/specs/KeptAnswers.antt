@@ -27,6 +27,10 @@ HasColumns answer None first end ks k = ⊥
 HasColumns answer (Some call) first end ks k =
     KeepsColumns (semiring_in ks) (answer call (arithmetic_of (semiring_in ks)) (map matrix_in ks)) first end k
 
+-- what a call returns that has a number, and keeps the columns of a range of its result
+abbrev pub IsColumnsAnswer : {C : Type 0} → (C → Arithmetic → List Sparse → Fault → Type 0) → (C → Arithmetic → List Sparse → Sparse) → Option C → ℕ → ℕ → List Kept → Result Kept Fault → Type 0
+IsColumnsAnswer faults answer call first end ks = IsAnswer (numbered_faults faults call ks) (HasColumns answer call first end ks)
+
 -- what holds over the semiring of a number, by its name; nothing does over none
 abbrev pub OverName : Option SemiringName → (SemiringName → Type 0) → Type 0
 OverName None P = ⊥

@@ -28,6 +28,6 @@ IsKeptExtract rows cols first end k made =
 abbrev pub IsExtractOf : SemiringName → Arithmetic → Option (List ℕ) → Option (List ℕ) → ℕ → ℕ → Sparse → Result Kept Fault → Type 0
 IsExtractOf name s rows cols first end m = IsAnswer (number_faults rows cols m.shape) (KeepsColumns name (extracted_by s rows cols m) first end)
 
--- of those of a kept matrix, or a fault
+-- the same of a kept matrix
 abbrev pub IsExtractAnswer : Option (List ℕ) → Option (List ℕ) → ℕ → ℕ → Kept → Result Kept Fault → Type 0
 IsExtractAnswer rows cols first end k = IsExtractOf (semiring_of k) (arithmetic_of (semiring_of k)) rows cols first end (matrix_in k)

@@ -5,12 +5,12 @@ use Rattle.cb_semirings.specs.Arithmetic.{Arithmetic}
 use Rattle.cb_matrix.specs.Sparse.{Sparse}
 use Rattle.cb_market_lines.specs.Reads.{Reads}
 use Rattle.cb_market_pages.specs.Text.{text_of}
-use Rattle.cb_kept.specs.declared.texts.Text.{Text as Bytes}
+use Rattle.cb_kept.specs.declared.kept_texts.KeptText.{KeptText}
 use Rattle.cb_kept.specs.declared.kept.Kept.{Kept}
 use Rattle.cb_kept.specs.Kept.{Keeps, matrix_in}
 
 -- the text of a kept matrix, over a semiring
-abbrev pub IsKeptText : Arithmetic → Kept → Bytes → Type 0
+abbrev pub IsKeptText : Arithmetic → Kept → KeptText → Type 0
 IsKeptText s k t = t.bytes.now ≡ text_of s (matrix_in k)
 
 -- the matrix of a text, kept over a semiring and its name

@@ -1,5 +1,5 @@
 -- A kept matrix updated by another one, under a mask.
-use Rattle.std.specs.Prelude.{◌≡◌, ℕ, nat_lt, ◌/◌, ◌%◌, ◌==◌, cond, List, [], ◌∷◌, Option, Some, None, IfSome, Result}
+use Rattle.std.specs.Prelude.{◌≡◌, ℕ, nat_lt, ◌/◌, ◌%◌, ◌==◌, cond, List, [], ◌∷◌, Option, Some, None, IfSome}
 use Rattle.cb_semirings.specs.Arithmetic.{Arithmetic}
 use Rattle.cb_matrix.specs.Sparse.{Sparse}
 use Rattle.cb_operations.specs.OperationAnswers.{matrix_at}
@@ -8,8 +8,6 @@ use Rattle.cb_selections.specs.Updates.{updated}
 use Rattle.cb_kept.specs.declared.faults.Fault.{Fault}
 use Rattle.cb_kept.specs.declared.faults.Fault.TheVariants.{Shapes}
 use Rattle.cb_kept.specs.declared.kept.Kept.{Kept}
-use Rattle.cb_kept.specs.Answers.{IsAnswer}
-use Rattle.cb_kept.specs.KeptAnswers.{HasColumns, numbered_faults}
 use Rattle.cb_kept.specs.Refusals.{Unless, IsMemory}
 
 -- the update of a number, 0 to 7: 1 if it accumulates, 2 if the mask is complemented and 4 if it replaces, added up
@@ -40,7 +38,3 @@ update_of how s ms = updated s how (mask_in ms) (matrix_at ms 0) (matrix_at ms 1
 abbrev pub operands_of : Kept → Kept → Option Kept → List Kept
 operands_of old new None = old ∷ new ∷ []
 operands_of old new (Some mask) = old ∷ new ∷ mask ∷ []
-
--- what an update returns
-abbrev pub IsUpdate : Option WriteBack → ℕ → ℕ → List Kept → Result Kept Fault → Type 0
-IsUpdate how first end ks = IsAnswer (numbered_faults (λ _. shape_faults) how ks) (HasColumns update_of how first end ks)

@@ -1,12 +1,13 @@
 //! A kept matrix: a matrix in panels over any of the semirings, as one type; how a matrix becomes one, and how it gives its panels.
 #![tactic(auto, unfolding(crate::specs::Kept::semiring_of, crate::specs::Kept::matrix_in))]
 
-ghost use Rattle.std.specs.Prelude.{◌≡◌, ◌≢◌, length, Some, IfSome, IfNone};
+ghost use Rattle.std.specs.Prelude.{◌≡◌, length, Some, IfOk, IfErr};
 ghost use Rattle.cb_semirings.specs.Names.{numbered};
 ghost use Rattle.cb_semirings.specs.declared.names.SemiringName.TheVariants as name_is;
 ghost use Rattle.cb_matrix.specs.Sparse.{IsMatrix};
-ghost use Rattle.cb_kept.specs.Kept.{Keeps, nothing, semiring_of, matrix_in};
+ghost use Rattle.cb_kept.specs.Kept.{IsMixed, Keeps, nothing, semiring_of, matrix_in};
 
+use crate::faults::Fault;
 use cb_dcsc::Block;
 use cb_layout::PanelledMatrix;
 use cb_matrix::Shape;
@@ -36,54 +37,56 @@ pub enum Kept {
     MinMax(PanelledMatrix<MinMax>),
 }
 
-/// What is made of a kept matrix, over any semiring.
+/// What is made of a kept matrix in panels, over any semiring: `of_matrix!(kept, matrix => ..)` has an arm for each.
+#[macro_export]
 macro_rules! of_matrix {
     ($kept:expr, $matrix:ident => $made:expr) => {
         match $kept {
-            Kept::PlusTimes($matrix) => $made,
-            Kept::MinPlus($matrix) => $made,
-            Kept::OrAnd($matrix) => $made,
-            Kept::MaxMin($matrix) => $made,
-            Kept::PlusPair($matrix) => $made,
-            Kept::PlusMin($matrix) => $made,
-            Kept::PlusFirst($matrix) => $made,
-            Kept::PlusSecond($matrix) => $made,
-            Kept::MinFirst($matrix) => $made,
-            Kept::MinSecond($matrix) => $made,
-            Kept::MaxFirst($matrix) => $made,
-            Kept::MaxSecond($matrix) => $made,
-            Kept::MaxPlus($matrix) => $made,
-            Kept::MinMax($matrix) => $made,
+            $crate::Kept::PlusTimes($matrix) => $made,
+            $crate::Kept::MinPlus($matrix) => $made,
+            $crate::Kept::OrAnd($matrix) => $made,
+            $crate::Kept::MaxMin($matrix) => $made,
+            $crate::Kept::PlusPair($matrix) => $made,
+            $crate::Kept::PlusMin($matrix) => $made,
+            $crate::Kept::PlusFirst($matrix) => $made,
+            $crate::Kept::PlusSecond($matrix) => $made,
+            $crate::Kept::MinFirst($matrix) => $made,
+            $crate::Kept::MinSecond($matrix) => $made,
+            $crate::Kept::MaxFirst($matrix) => $made,
+            $crate::Kept::MaxSecond($matrix) => $made,
+            $crate::Kept::MaxPlus($matrix) => $made,
+            $crate::Kept::MinMax($matrix) => $made,
         }
     };
 }
 
-pub(crate) use of_matrix;
+/// What is made of two kept matrices over one semiring, or else of other ones.
+macro_rules! of_both {
+    ($front:expr, $back:expr, $first:ident, $last:ident => $made:expr, $other:expr) => {
+        match ($front, $back) {
+            (Kept::PlusTimes($first), Kept::PlusTimes($last)) => $made,
+            (Kept::MinPlus($first), Kept::MinPlus($last)) => $made,
+            (Kept::OrAnd($first), Kept::OrAnd($last)) => $made,
+            (Kept::MaxMin($first), Kept::MaxMin($last)) => $made,
+            (Kept::PlusPair($first), Kept::PlusPair($last)) => $made,
+            (Kept::PlusMin($first), Kept::PlusMin($last)) => $made,
+            (Kept::PlusFirst($first), Kept::PlusFirst($last)) => $made,
+            (Kept::PlusSecond($first), Kept::PlusSecond($last)) => $made,
+            (Kept::MinFirst($first), Kept::MinFirst($last)) => $made,
+            (Kept::MinSecond($first), Kept::MinSecond($last)) => $made,
+            (Kept::MaxFirst($first), Kept::MaxFirst($last)) => $made,
+            (Kept::MaxSecond($first), Kept::MaxSecond($last)) => $made,
+            (Kept::MaxPlus($first), Kept::MaxPlus($last)) => $made,
+            (Kept::MinMax($first), Kept::MinMax($last)) => $made,
+            _ => $other,
+        }
+    };
+}
+
+pub(crate) use of_both;
 
 impl Kept {
-    /// The semiring of the matrix.
-    pub(crate) fn semiring(&self) -> SemiringName
-        ensures { result ≡ semiring_of self.now }
-    {
-        match self {
-            Kept::PlusTimes(_matrix) => SemiringName::PlusTimes,
-            Kept::MinPlus(_matrix) => SemiringName::MinPlus,
-            Kept::OrAnd(_matrix) => SemiringName::OrAnd,
-            Kept::MaxMin(_matrix) => SemiringName::MaxMin,
-            Kept::PlusPair(_matrix) => SemiringName::PlusPair,
-            Kept::PlusMin(_matrix) => SemiringName::PlusMin,
-            Kept::PlusFirst(_matrix) => SemiringName::PlusFirst,
-            Kept::PlusSecond(_matrix) => SemiringName::PlusSecond,
-            Kept::MinFirst(_matrix) => SemiringName::MinFirst,
-            Kept::MinSecond(_matrix) => SemiringName::MinSecond,
-            Kept::MaxFirst(_matrix) => SemiringName::MaxFirst,
-            Kept::MaxSecond(_matrix) => SemiringName::MaxSecond,
-            Kept::MaxPlus(_matrix) => SemiringName::MaxPlus,
-            Kept::MinMax(_matrix) => SemiringName::MinMax,
-        }
-    }
-
-    /// The number of that semiring.
+    /// The number of the semiring.
     pub(crate) fn number(&self) -> u32
         ensures { numbered result ≡ Some (semiring_of self.now) }
     {
@@ -138,7 +141,7 @@ impl Kept {
 /// A semiring whose matrices can be kept.
 pub trait Keep: Semiring {
     ghost use Rattle.cb_semirings.specs.declared.names.SemiringName.{SemiringName};
-    ghost use Rattle.cb_kept.specs.Kept.{Keeps, semiring_of};
+    ghost use Rattle.cb_kept.specs.Kept.{IsMixed, Keeps};
 
     /// The name of the semiring.
     ghost name: { SemiringName };
@@ -147,16 +150,10 @@ pub trait Keep: Semiring {
     fn keep(alloc: Global, matrix: &mut PanelledMatrix<Self>) -> Kept
         ensures { Keeps name matrix.old result };
 
-    /// The panels of a kept matrix, or none if it is over another semiring.
-    fn panels_of(kept: &Kept) -> Option<&PanelledMatrix<Self>>
-        ensures some { IfSome result (λ m. Keeps name m.now kept.now) }
-        ensures none { IfNone result (semiring_of kept.now ≢ name) };
-
-    /// Takes the panels out of a kept matrix, and leaves one without entries in their place; or none if it is over another
-    /// semiring.
-    fn take(alloc: Global, kept: &mut Kept) -> Option<PanelledMatrix<Self>>
-        ensures some { IfSome result (λ m. Keeps name m kept.old) }
-        ensures none { IfNone result (semiring_of kept.old ≢ name) };
+    /// The panels of a kept matrix, which has to be over this semiring.
+    fn panels_of(kept: &Kept) -> Result<&PanelledMatrix<Self>, Fault>
+        ensures panels { IfOk result (λ m. Keeps name m.now kept.now) }
+        ensures fault { IfErr result (IsMixed name kept.now) };
 }
 
 /// Takes a matrix, and leaves one of its shape without entries in its place.
@@ -168,21 +165,20 @@ fn taken<S: Semiring>(alloc: Global, matrix: &mut PanelledMatrix<S>) -> Panelled
 }
 
 /// Keeps a block, as a matrix of one panel.
-pub(crate) fn keep_block<S: Keep>(alloc: Global, block: Block<S>) -> Kept
+pub fn keep_block<S: Keep>(alloc: Global, block: Block<S>) -> Kept
     ensures keeps { Keeps S.name block result }
     ensures matrix { IsMatrix S.arithmetic block }
 {
     let _shape = block.shape();
-    let mut matrix = PanelledMatrix::from_block(alloc, block);
-    S::keep(alloc, &mut matrix)
+    S::keep(alloc, &mut PanelledMatrix::from_block(alloc, block))
 }
 
-/// What is made of a kept matrix, or none if it is over another semiring than this one.
-macro_rules! if_over {
-    ($kept:expr, $semiring:ident, $matrix:ident => $made:expr) => {
+/// The panels of a kept matrix, if it is over this semiring.
+macro_rules! panels_over {
+    ($kept:expr, $semiring:ident) => {
         match $kept {
-            Kept::$semiring($matrix) => Some($made),
-            _ => None,
+            Kept::$semiring(matrix) => Ok(matrix),
+            _ => Err(Fault::Mixed),
         }
     };
 }
@@ -194,12 +190,8 @@ impl Keep for PlusTimes {
         Kept::PlusTimes(taken(alloc, matrix))
     }
 
-    fn panels_of(kept: &Kept) -> Option<&PanelledMatrix<PlusTimes>> {
-        if_over!(kept, PlusTimes, matrix => matrix)
-    }
-
-    fn take(alloc: Global, kept: &mut Kept) -> Option<PanelledMatrix<PlusTimes>> {
-        if_over!(kept, PlusTimes, matrix => taken(alloc, matrix))
+    fn panels_of(kept: &Kept) -> Result<&PanelledMatrix<PlusTimes>, Fault> {
+        panels_over!(kept, PlusTimes)
     }
 }
 
@@ -210,12 +202,8 @@ impl Keep for MinPlus {
         Kept::MinPlus(taken(alloc, matrix))
     }
 
-    fn panels_of(kept: &Kept) -> Option<&PanelledMatrix<MinPlus>> {
-        if_over!(kept, MinPlus, matrix => matrix)
-    }
-
-    fn take(alloc: Global, kept: &mut Kept) -> Option<PanelledMatrix<MinPlus>> {
-        if_over!(kept, MinPlus, matrix => taken(alloc, matrix))
+    fn panels_of(kept: &Kept) -> Result<&PanelledMatrix<MinPlus>, Fault> {
+        panels_over!(kept, MinPlus)
     }
 }
 
@@ -226,12 +214,8 @@ impl Keep for OrAnd {
         Kept::OrAnd(taken(alloc, matrix))
     }
 
-    fn panels_of(kept: &Kept) -> Option<&PanelledMatrix<OrAnd>> {
-        if_over!(kept, OrAnd, matrix => matrix)
-    }
-
-    fn take(alloc: Global, kept: &mut Kept) -> Option<PanelledMatrix<OrAnd>> {
-        if_over!(kept, OrAnd, matrix => taken(alloc, matrix))
+    fn panels_of(kept: &Kept) -> Result<&PanelledMatrix<OrAnd>, Fault> {
+        panels_over!(kept, OrAnd)
     }
 }
 
@@ -242,12 +226,8 @@ impl Keep for MaxMin {
         Kept::MaxMin(taken(alloc, matrix))
     }
 
-    fn panels_of(kept: &Kept) -> Option<&PanelledMatrix<MaxMin>> {
-        if_over!(kept, MaxMin, matrix => matrix)
-    }
-
-    fn take(alloc: Global, kept: &mut Kept) -> Option<PanelledMatrix<MaxMin>> {
-        if_over!(kept, MaxMin, matrix => taken(alloc, matrix))
+    fn panels_of(kept: &Kept) -> Result<&PanelledMatrix<MaxMin>, Fault> {
+        panels_over!(kept, MaxMin)
     }
 }
 
@@ -258,12 +238,8 @@ impl Keep for PlusPair {
         Kept::PlusPair(taken(alloc, matrix))
     }
 
-    fn panels_of(kept: &Kept) -> Option<&PanelledMatrix<PlusPair>> {
-        if_over!(kept, PlusPair, matrix => matrix)
-    }
-
-    fn take(alloc: Global, kept: &mut Kept) -> Option<PanelledMatrix<PlusPair>> {
-        if_over!(kept, PlusPair, matrix => taken(alloc, matrix))
+    fn panels_of(kept: &Kept) -> Result<&PanelledMatrix<PlusPair>, Fault> {
+        panels_over!(kept, PlusPair)
     }
 }
 
@@ -274,12 +250,8 @@ impl Keep for PlusMin {
         Kept::PlusMin(taken(alloc, matrix))
     }
 
-    fn panels_of(kept: &Kept) -> Option<&PanelledMatrix<PlusMin>> {
-        if_over!(kept, PlusMin, matrix => matrix)
-    }
-
-    fn take(alloc: Global, kept: &mut Kept) -> Option<PanelledMatrix<PlusMin>> {
-        if_over!(kept, PlusMin, matrix => taken(alloc, matrix))
+    fn panels_of(kept: &Kept) -> Result<&PanelledMatrix<PlusMin>, Fault> {
+        panels_over!(kept, PlusMin)
     }
 }
 
@@ -290,12 +262,8 @@ impl Keep for PlusFirst {
         Kept::PlusFirst(taken(alloc, matrix))
     }
 
-    fn panels_of(kept: &Kept) -> Option<&PanelledMatrix<PlusFirst>> {
-        if_over!(kept, PlusFirst, matrix => matrix)
-    }
-
-    fn take(alloc: Global, kept: &mut Kept) -> Option<PanelledMatrix<PlusFirst>> {
-        if_over!(kept, PlusFirst, matrix => taken(alloc, matrix))
+    fn panels_of(kept: &Kept) -> Result<&PanelledMatrix<PlusFirst>, Fault> {
+        panels_over!(kept, PlusFirst)
     }
 }
 
@@ -306,12 +274,8 @@ impl Keep for PlusSecond {
         Kept::PlusSecond(taken(alloc, matrix))
     }
 
-    fn panels_of(kept: &Kept) -> Option<&PanelledMatrix<PlusSecond>> {
-        if_over!(kept, PlusSecond, matrix => matrix)
-    }
-
-    fn take(alloc: Global, kept: &mut Kept) -> Option<PanelledMatrix<PlusSecond>> {
-        if_over!(kept, PlusSecond, matrix => taken(alloc, matrix))
+    fn panels_of(kept: &Kept) -> Result<&PanelledMatrix<PlusSecond>, Fault> {
+        panels_over!(kept, PlusSecond)
     }
 }
 
@@ -322,12 +286,8 @@ impl Keep for MinFirst {
         Kept::MinFirst(taken(alloc, matrix))
     }
 
-    fn panels_of(kept: &Kept) -> Option<&PanelledMatrix<MinFirst>> {
-        if_over!(kept, MinFirst, matrix => matrix)
-    }
-
-    fn take(alloc: Global, kept: &mut Kept) -> Option<PanelledMatrix<MinFirst>> {
-        if_over!(kept, MinFirst, matrix => taken(alloc, matrix))
+    fn panels_of(kept: &Kept) -> Result<&PanelledMatrix<MinFirst>, Fault> {
+        panels_over!(kept, MinFirst)
     }
 }
 
@@ -338,12 +298,8 @@ impl Keep for MinSecond {
         Kept::MinSecond(taken(alloc, matrix))
     }
 
-    fn panels_of(kept: &Kept) -> Option<&PanelledMatrix<MinSecond>> {
-        if_over!(kept, MinSecond, matrix => matrix)
-    }
-
-    fn take(alloc: Global, kept: &mut Kept) -> Option<PanelledMatrix<MinSecond>> {
-        if_over!(kept, MinSecond, matrix => taken(alloc, matrix))
+    fn panels_of(kept: &Kept) -> Result<&PanelledMatrix<MinSecond>, Fault> {
+        panels_over!(kept, MinSecond)
     }
 }
 
@@ -354,12 +310,8 @@ impl Keep for MaxFirst {
         Kept::MaxFirst(taken(alloc, matrix))
     }
 
-    fn panels_of(kept: &Kept) -> Option<&PanelledMatrix<MaxFirst>> {
-        if_over!(kept, MaxFirst, matrix => matrix)
-    }
-
-    fn take(alloc: Global, kept: &mut Kept) -> Option<PanelledMatrix<MaxFirst>> {
-        if_over!(kept, MaxFirst, matrix => taken(alloc, matrix))
+    fn panels_of(kept: &Kept) -> Result<&PanelledMatrix<MaxFirst>, Fault> {
+        panels_over!(kept, MaxFirst)
     }
 }
 
@@ -370,12 +322,8 @@ impl Keep for MaxSecond {
         Kept::MaxSecond(taken(alloc, matrix))
     }
 
-    fn panels_of(kept: &Kept) -> Option<&PanelledMatrix<MaxSecond>> {
-        if_over!(kept, MaxSecond, matrix => matrix)
-    }
-
-    fn take(alloc: Global, kept: &mut Kept) -> Option<PanelledMatrix<MaxSecond>> {
-        if_over!(kept, MaxSecond, matrix => taken(alloc, matrix))
+    fn panels_of(kept: &Kept) -> Result<&PanelledMatrix<MaxSecond>, Fault> {
+        panels_over!(kept, MaxSecond)
     }
 }
 
@@ -386,12 +334,8 @@ impl Keep for MaxPlus {
         Kept::MaxPlus(taken(alloc, matrix))
     }
 
-    fn panels_of(kept: &Kept) -> Option<&PanelledMatrix<MaxPlus>> {
-        if_over!(kept, MaxPlus, matrix => matrix)
-    }
-
-    fn take(alloc: Global, kept: &mut Kept) -> Option<PanelledMatrix<MaxPlus>> {
-        if_over!(kept, MaxPlus, matrix => taken(alloc, matrix))
+    fn panels_of(kept: &Kept) -> Result<&PanelledMatrix<MaxPlus>, Fault> {
+        panels_over!(kept, MaxPlus)
     }
 }
 
@@ -402,11 +346,7 @@ impl Keep for MinMax {
         Kept::MinMax(taken(alloc, matrix))
     }
 
-    fn panels_of(kept: &Kept) -> Option<&PanelledMatrix<MinMax>> {
-        if_over!(kept, MinMax, matrix => matrix)
-    }
-
-    fn take(alloc: Global, kept: &mut Kept) -> Option<PanelledMatrix<MinMax>> {
-        if_over!(kept, MinMax, matrix => taken(alloc, matrix))
+    fn panels_of(kept: &Kept) -> Result<&PanelledMatrix<MinMax>, Fault> {
+        panels_over!(kept, MinMax)
     }
 }

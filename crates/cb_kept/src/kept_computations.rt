@@ -2,9 +2,8 @@
 ghost use Rattle.std.specs.Prelude.{◌≡◌, length, IfSome};
 ghost use Rattle.cb_operations.specs.Computations.{answer_of, operand_count_of};
 ghost use Rattle.cb_operations.specs.Operands.{lent_in};
-ghost use Rattle.cb_kept.specs.Answers.{IsAnswer};
 ghost use Rattle.cb_kept.specs.CallsOver.{refusal_faults};
-ghost use Rattle.cb_kept.specs.KeptAnswers.{HasColumns, numbered_faults};
+ghost use Rattle.cb_kept.specs.KeptAnswers.{IsColumnsAnswer};
 
 use crate::faults::Fault;
 use crate::kept::{Keep, Kept, keep_block};
@@ -48,7 +47,7 @@ pub fn kept_computation(
     end: u32,
 ) -> Result<Kept, Fault>
     requires { IfSome computation (λ c. length operands.now ≡ operand_count_of c) }
-    ensures { IsAnswer (numbered_faults refusal_faults computation (lent_in operands.now)) (HasColumns answer_of computation first end (lent_in operands.now)) result }
+    ensures { IsColumnsAnswer refusal_faults answer_of computation first end (lent_in operands.now) result }
 {
     match computation {
         Some(call) => kept_call(alloc, &Share { call, first, end }, operands),

@@ -5,10 +5,11 @@ ghost use Rattle.cb_kept.specs.Answers.{NoFault};
 ghost use Rattle.cb_kept.specs.KeptExtracts.{number_faults, IsExtractAnswer, IsExtractOf};
 
 use crate::faults::Fault;
-use crate::kept::{Keep, Kept, keep_block, of_matrix};
+use crate::kept::{Keep, Kept, keep_block};
+use crate::of_matrix;
 use cb_layout::PanelledMatrix;
 use cb_matrix::{LIMIT, Shape};
-use cb_shares::extract_columns;
+use cb_shares::extracted_columns;
 use std::alloc::Global;
 
 /// Whether a list, if there is one, has no more numbers than a matrix can have rows or columns.
@@ -61,7 +62,7 @@ fn extract_kept<S: Keep>(
     ensures { IsExtractOf S.name S.arithmetic (option_copied rows.entry) (option_copied cols.entry) first end matrix.now result }
 {
     check_numbers(matrix.shape(), rows, cols)?;
-    let part = extract_columns(alloc, matrix, rows, cols, first, end)?;
+    let part = extracted_columns(alloc, matrix, rows, cols, first, end)?;
     Ok(keep_block::<S>(alloc, part))
 }
 

@@ -1,9 +1,7 @@
 //! A kept matrix with its transpose, which calls use that need it.
-ghost use Rattle.std.specs.Prelude.{◌≡◌, IfErr, IfOk, IfSome, IsNone, OnErr, OnOk};
-ghost use Rattle.cb_matrix.specs.Values.{empty_matrix};
-ghost use Rattle.cb_kept.specs.Answers.{IsAnswer};
-ghost use Rattle.cb_kept.specs.Kept.{IsTransposeOf, Keeps, matrix_in, nothing, semiring_of};
-ghost use Rattle.cb_kept.specs.KeptPanels.{IsKeptJoin, join_faults};
+ghost use Rattle.std.specs.Prelude.{◌≡◌, IfErr, IfOk, IfSome, IsNone};
+ghost use Rattle.cb_kept.specs.Kept.{IsTransposeOf, nothing};
+ghost use Rattle.cb_kept.specs.KeptPanels.{IsKeptJoin};
 ghost use Rattle.cb_kept.specs.Refusals.{IsMemory};
 
 use crate::faults::Fault;
@@ -112,10 +110,7 @@ impl KeptMatrix {
 /// whose columns are all before its own, and leaves the first of these without entries. At a fault both stay as they were.
 /// No entry is copied. Transposes that are kept beside them go.
 pub fn kept_join(alloc: Global, front: &mut KeptMatrix, back: &mut KeptMatrix) -> Result<(), Fault>
-    ensures answer { IsAnswer (join_faults front.old back.old) (λ _. IsKeptJoin front.old back.old front.new) result }
-    ensures rest { OnOk result (Keeps (semiring_of back.old) (empty_matrix (matrix_in back.old).shape) back.new) }
-    ensures front { OnErr result (Keeps (semiring_of front.old) (matrix_in front.old) front.new) }
-    ensures back { OnErr result (Keeps (semiring_of back.old) (matrix_in back.old) back.new) }
+    ensures { IsKeptJoin front.old back.old front.new back.new result }
 {
     free(&mut front.turned);
     free(&mut back.turned);

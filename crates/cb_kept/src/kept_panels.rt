@@ -1,20 +1,15 @@
 //! Panels of a kept matrix, each with a range of its columns, that are joined.
-ghost use Rattle.std.specs.Prelude.{◌≡◌, IfOk, IfErr, OnOk, OnErr};
-ghost use Rattle.cb_semirings.specs.Names.{arithmetic_of};
-ghost use Rattle.cb_matrix.specs.Values.{empty_matrix};
-ghost use Rattle.cb_dcsc.specs.Columns.{with_entries};
-ghost use Rattle.cb_shares.specs.Shares.{AreBefore, JoinsPanels};
-ghost use Rattle.cb_kept.specs.Answers.{IsAnswer, NoFault};
-ghost use Rattle.cb_kept.specs.Kept.{Keeps, semiring_of, matrix_in};
-ghost use Rattle.cb_kept.specs.KeptPanels.{panel_faults, join_faults, IsJoin, IsKeptJoin};
+ghost use Rattle.std.specs.Prelude.{◌≡◌, IfOk, IfErr};
+ghost use Rattle.cb_shares.specs.Shares.{AreBefore};
+ghost use Rattle.cb_kept.specs.Answers.{NoFault};
+ghost use Rattle.cb_kept.specs.KeptPanels.{IsKeptJoin, IsPanelJoin, panel_faults};
 
 use crate::faults::Fault;
-use crate::kept::{Keep, Kept};
-use crate::kept_calls::panels_in;
+use crate::kept::{Kept, of_both};
 use cb_layout::PanelledMatrix;
-use cb_semirings::{Semiring, SemiringName, over_semiring};
+use cb_semirings::Semiring;
 use cb_shares::{are_before, join};
-use std::alloc::{AllocError, Global};
+use std::alloc::Global;
 
 /// Refuses two matrices of different shapes, and columns that aren't after one another.
 fn check_join<S: Semiring>(front: &PanelledMatrix<S>, back: &PanelledMatrix<S>) -> Result<(), Fault>
@@ -32,88 +27,24 @@ fn check_join<S: Semiring>(front: &PanelledMatrix<S>, back: &PanelledMatrix<S>) 
     Ok(())
 }
 
-/// The panels of a kept matrix over a semiring, taken out of it.
-fn taken_from<S: Keep>(alloc: Global, kept: &mut Kept) -> PanelledMatrix<S>
-    requires { semiring_of kept.old ≡ S.name }
-    ensures { result ≡ matrix_in kept.old }
-{
-    match S::take(alloc, kept) {
-        Some(panels) => panels,
-        None => unreachable!(),
-    }
-}
-
 /// Appends the panels of a matrix to those of another of its shape, in which all columns are before its own.
 fn join_panels<S: Semiring>(
     alloc: Global,
     front: &mut PanelledMatrix<S>,
     back: &mut PanelledMatrix<S>,
-) -> Result<(), AllocError>
-    requires shapes { back.old.shape ≡ front.old.shape }
-    requires before { AreBefore front.old.entries back.old.entries }
-    ensures entries { OnOk result (front.new ≡ with_entries front.old back.old.entries) }
-    ensures panels { OnOk result (JoinsPanels S.arithmetic front.old back.old front.new) }
-    ensures rest { OnOk result (back.new ≡ empty_matrix back.old.shape) }
-    ensures front { OnErr result (front.new ≡ front.old) }
-    ensures back { OnErr result (back.new ≡ back.old) }
+) -> Result<(), Fault>
+    ensures { IsPanelJoin S.arithmetic front.old back.old front.new back.new result }
 {
+    check_join(front, back)?;
     prove_eq!(back.shape(), front.shape());
-    join(alloc, front, back)
-}
-
-/// Appends the panels of a matrix over a semiring to those of another, and keeps both again.
-fn append_kept<S: Keep>(alloc: Global, front: &mut Kept, back: &mut Kept) -> Result<(), AllocError>
-    requires front { semiring_of front.old ≡ S.name }
-    requires back { semiring_of back.old ≡ S.name }
-    requires shapes { (matrix_in back.old).shape ≡ (matrix_in front.old).shape }
-    requires before { AreBefore (matrix_in front.old).entries (matrix_in back.old).entries }
-    ensures { IsJoin S.name S.arithmetic front.old back.old front.new back.new result }
-{
-    let mut first = taken_from::<S>(alloc, front);
-    let mut last = taken_from::<S>(alloc, back);
-    let joined = join_panels(alloc, &mut first, &mut last);
-    front.set(S::keep(alloc, &mut first));
-    back.set(S::keep(alloc, &mut last));
-    joined
-}
-
-/// Joins two kept matrices over a semiring, if they are panels that can be joined.
-fn join_over<S: Keep>(alloc: Global, front: &mut Kept, back: &mut Kept) -> Result<(), Fault>
-    requires front { semiring_of front.old ≡ S.name }
-    requires back { semiring_of back.old ≡ S.name }
-    ensures answer { IsAnswer (panel_faults (matrix_in front.old) (matrix_in back.old)) (λ _. Unit {0}) result }
-    ensures join { IsJoin S.name S.arithmetic front.old back.old front.new back.new result }
-{
-    check_join(panels_in::<S>(front), panels_in::<S>(back))?;
-    append_kept::<S>(alloc, front, back)?;
+    join(alloc, front, back)?;
     Ok(())
 }
 
-/// The same, over the semiring of a name.
-fn join_named(
-    alloc: Global,
-    semiring: SemiringName,
-    front: &mut Kept,
-    back: &mut Kept,
-) -> Result<(), Fault>
-    requires front { semiring_of front.old ≡ semiring }
-    requires back { semiring_of back.old ≡ semiring }
-    ensures answer { IsAnswer (panel_faults (matrix_in front.old) (matrix_in back.old)) (λ _. Unit {0}) result }
-    ensures join { IsJoin semiring (arithmetic_of semiring) front.old back.old front.new back.new result }
-{
-    over_semiring!(semiring, join_over::<_>(alloc, front, back))
-}
-
 /// Joins two kept matrices, if they are over one semiring and panels that can be joined.
-#[tactic(auto, unfolding(crate::specs::KeptPanels::join_faults))]
+#[tactic(auto, unfolding(crate::specs::Kept::semiring_of, crate::specs::Kept::matrix_in, crate::specs::KeptPanels::join_faults), using(crate::proofs::KeptJoins::joined))]
 pub(crate) fn join_alone(alloc: Global, front: &mut Kept, back: &mut Kept) -> Result<(), Fault>
-    ensures answer { IsAnswer (join_faults front.old back.old) (λ _. IsKeptJoin front.old back.old front.new) result }
-    ensures rest { OnOk result (Keeps (semiring_of back.old) (empty_matrix (matrix_in back.old).shape) back.new) }
-    ensures front { OnErr result (Keeps (semiring_of front.old) (matrix_in front.old) front.new) }
-    ensures back { OnErr result (Keeps (semiring_of back.old) (matrix_in back.old) back.new) }
+    ensures { IsKeptJoin front.old back.old front.new back.new result }
 {
-    if back.semiring() != front.semiring() {
-        return Err(Fault::Mixed);
-    }
-    join_named(alloc, front.semiring(), front, back)
+    of_both!(front, back, first, last => join_panels(alloc, first, last), Err(Fault::Mixed))
 }

@@ -13,12 +13,13 @@ ghost use Rattle.cb_kept.specs.KeptAnswers.{numbered_faults};
 ghost use Rattle.cb_kept.specs.KeptSums.{IsAddedShare, IsColumnOver, IsKeptColumn, IsKeptShare, IsTotal, share_faults, sum_faults, sum_of};
 
 use crate::faults::Fault;
-use crate::kept::{Keep, Kept, keep_block, of_matrix};
+use crate::kept::{Keep, Kept, keep_block};
 use crate::kept_calls::{KeptCall, kept_call};
+use crate::of_matrix;
 use cb_layout::PanelledMatrix;
 use cb_matrix::Shape;
 use cb_operations::{Computation, Operation};
-use cb_semirings::{Semiring, SemiringName, over_semiring};
+use cb_semirings::Semiring;
 use cb_shares::{add_share, check, column_of_sums, share_of_sum, total_of_columns};
 use std::alloc::Global;
 
@@ -135,17 +136,18 @@ fn check_shares<S: Semiring>(sums: &[u64], more: &[u64]) -> Result<(), Fault>
     if more.len() != sums.len() {
         return Err(Fault::Lengths);
     }
-    if !are_values::<S>(sums) {
-        return Err(Fault::Value);
-    }
-    if !are_values::<S>(more) {
+    if !are_values::<S>(sums) || !are_values::<S>(more) {
         return Err(Fault::Value);
     }
     Ok(())
 }
 
-/// Adds a share to another over a semiring.
-fn add_over<S: Semiring>(sums: &mut [u64], more: &[u64]) -> Result<(), Fault>
+/// Adds a share to another over the semiring of a matrix.
+fn add_over<S: Semiring>(
+    _like: &PanelledMatrix<S>,
+    sums: &mut [u64],
+    more: &[u64],
+) -> Result<(), Fault>
     ensures { IsAddedShare S.arithmetic sums.old more.now sums.new result }
 {
     check_shares::<S>(sums, more)?;
@@ -153,19 +155,13 @@ fn add_over<S: Semiring>(sums: &mut [u64], more: &[u64]) -> Result<(), Fault>
     Ok(())
 }
 
-/// The same, over the semiring of a name.
-fn add_named(semiring: SemiringName, sums: &mut [u64], more: &[u64]) -> Result<(), Fault>
-    ensures { IsAddedShare (arithmetic_of semiring) sums.old more.now sums.new result }
-{
-    over_semiring!(semiring, add_over::<_>(sums, more))
-}
-
 /// Adds a share to that of the columns before it, over the semiring of a kept matrix: lists of one length, or the sums of all
 /// values in these columns, as lists of a single number. At a fault nothing changes. Costs a few instructions for each number.
+#[tactic(auto, unfolding(crate::specs::Kept::semiring_of))]
 pub fn kept_add_share(like: &Kept, sums: &mut [u64], more: &[u64]) -> Result<(), Fault>
     ensures { IsAddedShare (arithmetic_of (semiring_of like.now)) sums.old more.now sums.new result }
 {
-    add_named(like.semiring(), sums, more)
+    of_matrix!(like, matrix => add_over(matrix, sums, more))
 }
 
 /// Refuses a list of another length than a column of a shape, and numbers that aren't values.
@@ -184,41 +180,25 @@ fn check_sums<S: Semiring>(shape: Shape, list: &[u64]) -> Result<(), Fault>
     Ok(())
 }
 
-/// The shape of one column with the rows of another shape.
-fn one_column(shape: Shape) -> Shape
-    ensures { result ≡ record { rows = shape.rows; cols = 1 } }
+/// The column of a list, kept over the semiring of a matrix.
+fn column_over<S: Keep>(
+    alloc: Global,
+    like: &PanelledMatrix<S>,
+    list: &[u64],
+) -> Result<Kept, Fault>
+    ensures { IsAnswer (sum_faults S.arithmetic like.now.shape.rows list.now) (IsColumnOver S.name S.arithmetic list.now) result }
 {
-    Shape::new(shape.rows(), 1).unwrap()
-}
-
-/// The column of a list, kept over a semiring.
-fn column_over<S: Keep>(alloc: Global, shape: Shape, list: &[u64]) -> Result<Kept, Fault>
-    requires { shape.cols ≡ 1 }
-    ensures { IsAnswer (sum_faults S.arithmetic shape.rows list.now) (IsColumnOver S.name S.arithmetic list.now) result }
-{
+    let shape = Shape::new(like.shape().rows(), 1).unwrap();
     check_sums::<S>(shape, list)?;
     let block = column_of_sums::<S>(alloc, shape, list)?;
     Ok(keep_block::<S>(alloc, block))
 }
 
-/// The same, over the semiring of a name.
-fn column_named(
-    alloc: Global,
-    semiring: SemiringName,
-    shape: Shape,
-    list: &[u64],
-) -> Result<Kept, Fault>
-    requires { shape.cols ≡ 1 }
-    ensures { IsAnswer (sum_faults (arithmetic_of semiring) shape.rows list.now) (IsColumnOver semiring (arithmetic_of semiring) list.now) result }
-{
-    over_semiring!(semiring, column_over::<_>(alloc, shape, list))
-}
-
 /// Keeps the column that has the values of a list, one for each row of a kept matrix, over its semiring. Costs a few instructions
 /// for each row.
+#[tactic(auto, unfolding(crate::specs::Kept::semiring_of, crate::specs::Kept::matrix_in))]
 pub fn kept_column_of_sums(alloc: Global, like: &Kept, list: &[u64]) -> Result<Kept, Fault>
     ensures { IsAnswer (sum_faults (arithmetic_of (semiring_of like.now)) (matrix_in like.now).shape.rows list.now) (IsKeptColumn like.now list.now) result }
 {
-    let shape = one_column(like.shape());
-    column_named(alloc, like.semiring(), shape, list)
+    of_matrix!(like, matrix => column_over(alloc, matrix, list))
 }

@@ -3,7 +3,8 @@ ghost use Rattle.std.specs.Prelude.{◌≡◌, ◌≤◌, length, IfOk, IfErr, o
 ghost use Rattle.cb_operations.specs.Operands.{lent_in};
 ghost use Rattle.cb_shares.specs.Shares.{panel};
 ghost use Rattle.cb_kept.specs.Answers.{NoFault};
-ghost use Rattle.cb_kept.specs.KeptUpdates.{write_back_of, operands_of, HaveOneShape, shape_faults, update_of, IsUpdate};
+ghost use Rattle.cb_kept.specs.KeptAnswers.{IsColumnsAnswer};
+ghost use Rattle.cb_kept.specs.KeptUpdates.{write_back_of, operands_of, HaveOneShape, shape_faults, update_of};
 
 use crate::faults::Fault;
 use crate::kept::{Keep, Kept, keep_block};
@@ -102,7 +103,7 @@ pub fn kept_update(
     first: u32,
     end: u32,
 ) -> Result<Kept, Fault>
-    ensures { IsUpdate how first end (operands_of old.now new.now (option_copied mask.entry)) result }
+    ensures { IsColumnsAnswer (λ _. shape_faults) update_of how first end (operands_of old.now new.now (option_copied mask.entry)) result }
 {
     let Some(call) = how else {
         return Err(Fault::Test);

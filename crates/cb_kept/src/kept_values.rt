@@ -5,7 +5,8 @@ ghost use Rattle.cb_matrix.specs.Sparse.{at};
 ghost use Rattle.cb_kept.specs.Kept.{semiring_of, matrix_in};
 ghost use Rattle.cb_kept.specs.KeptAnswers.{IsSummary};
 
-use crate::kept::{Kept, of_matrix};
+use crate::kept::Kept;
+use crate::of_matrix;
 
 /// What a kept matrix is, without its entries.
 #[repr(C)]

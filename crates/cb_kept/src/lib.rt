@@ -11,15 +11,11 @@
 //! (max-min), and so on.
 #![tactic(auto)]
 
-mod checks;
 mod faults;
-mod incoming;
 mod kept;
 mod kept_calls;
-mod kept_checks;
 mod kept_computations;
 mod kept_extracts;
-mod kept_graphs;
 mod kept_lists;
 mod kept_matrices;
 mod kept_panels;
@@ -30,24 +26,21 @@ mod kept_turned;
 mod kept_updates;
 mod kept_values;
 mod misfits;
-mod texts;
 mod triples;
 
 pub use faults::Fault;
-pub use kept::Kept;
+pub use kept::{Keep, Kept, keep_block};
 pub use kept_computations::kept_computation;
 pub use kept_extracts::kept_extract;
-pub use kept_graphs::{KeptAnswer, graph_task_of, kept_graph};
-pub use kept_lists::{keep_lists, lists_of};
+pub use kept_lists::{columns_of, keep_lists};
 pub use kept_matrices::{KeptMatrix, kept_join};
 pub use kept_shares::{kept_ends, kept_entry_ends};
 pub use kept_sums::{
     Sums, kept_add_share, kept_column_of_sums, kept_share_of_sum, kept_total, sum_of,
 };
-pub use kept_texts::{read_kept, text_of};
+pub use kept_texts::{KeptText, read_kept, text_of};
 pub use kept_turned::kept_turned_product;
 pub use kept_updates::{kept_update, write_back_of};
 pub use kept_values::{Summary, summary_of, value_at};
 pub use misfits::{first_outside, misfit_of_lists, misfit_of_triples};
-pub use texts::Text;
 pub use triples::{Triple, keep_triples};

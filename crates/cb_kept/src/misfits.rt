@@ -83,23 +83,6 @@ fn first_unordered(lists: &Columns) -> usize
     count
 }
 
-/// The first row of a range, behind its first, that isn't above the row before it; or the end of the range.
-fn first_descent(rows: &[u32], first: usize, end: usize) -> usize
-    requires range { first ≤ end }
-    requires rows { end ≤ length rows.now }
-    ensures within { result ≤ end }
-    ensures from { result < end → first < result }
-    ensures here { result < end → slice_index rows.now result ≤ slice_index rows.now (result - 1) }
-    ensures before { (k : ℕ) → first < k → k < result → slice_index rows.now (k - 1) < slice_index rows.now k }
-{
-    for n in first + 1..end {
-        if rows[n] <= rows[n - 1] {
-            return n;
-        }
-    }
-    end
-}
-
 /// The first entry that is out of order, or how many entries there are.
 fn first_unordered_entry(lists: &Columns) -> usize
     requires lengths { HaveLengths lists.now }
@@ -109,23 +92,13 @@ fn first_unordered_entry(lists: &Columns) -> usize
     for n in 0..stored(lists) {
         let first = start(lists, n) as usize;
         let end = start(lists, n + 1) as usize;
-        let found = first_descent(lists.rows, first, end);
-        if found < end {
-            return found;
+        for entry in first + 1..end {
+            if lists.rows[entry] <= lists.rows[entry - 1] {
+                return entry;
+            }
         }
     }
     lists.rows.len()
-}
-
-/// The first listed column that is outside the shape, or how many are stored.
-fn first_outside_column(lists: &Columns) -> usize
-    ensures { IsFirst (IsColumnOutside lists.now) (count lists.now) result }
-{
-    if lists.kind == 0 {
-        first_outside(lists.columns, lists.ncols)
-    } else {
-        stored(lists)
-    }
 }
 
 /// Where lists are out of order: the stored column, counted on from the number of entries, or else the entry.
@@ -144,9 +117,11 @@ fn unordered(lists: &Columns) -> usize
 fn outside(lists: &Columns) -> usize
     ensures { IsFirstOfLists lists.now (IsColumnOutside lists.now) (IsFrom lists.now.nrows lists.now.rows.now) result }
 {
-    let column = first_outside_column(lists);
-    if column < stored(lists) {
-        return lists.rows.len() + column;
+    if lists.kind == 0 {
+        let column = first_outside(lists.columns, lists.ncols);
+        if column < lists.columns.len() {
+            return lists.rows.len() + column;
+        }
     }
     first_outside(lists.rows, lists.nrows)
 }

@@ -6,7 +6,6 @@ ghost use Rattle.cb_kept.specs.KeptAnswers.{IsKeptAnswerOver};
 ghost use Rattle.cb_kept.specs.Triples.{entry_of, AreWithin, AreTripleValues, triple_faults, IsKeptTriples, IsTriplesAnswer};
 
 use crate::faults::Fault;
-use crate::incoming::matrix_block;
 use crate::kept::{Keep, Kept, keep_block};
 use cb_dcsc::Block;
 use cb_matrix::{Entry, Matrix, Shape};
@@ -87,7 +86,7 @@ fn block_of<S: Semiring>(
 {
     let entries = entries_of(alloc, triples)?;
     let matrix = Matrix::<S>::collect(shape, entries)?;
-    matrix_block(alloc, &matrix)
+    Block::from_ordered(alloc, matrix.shape(), matrix.entries())
 }
 
 /// The matrix of triples, kept over a semiring.

@@ -8,7 +8,7 @@ use Rattle.cb_matrix.specs.Sparse.{Sparse, IsMatrix, at}
 use Rattle.cb_matrix.specs.Values.{product, product_shape, matrix_of}
 use Rattle.cb_matrix.specs.Operations.{has_entry}
 use Rattle.cb_matrix.proofs.Made.{at-matrix_of, at-outside, same_matrix_of}
-use Rattle.cb_operations.specs.Selected.{excluded}
+use Rattle.cb_operations.specs.SelectionAnswers.{excluded}
 use Rattle.cb_dcsc.specs.Columns.{in_column, rows_of, values_of, row_value}
 use Rattle.cb_product.specs.InColumns.{AreInColumns, is_among}
 use Rattle.cb_product.specs.Outside.{outside}

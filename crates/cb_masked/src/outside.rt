@@ -7,7 +7,7 @@
 ghost use Rattle.std.specs.Prelude.{◌≡◌, ◌<◌, ◌≤◌, All, AllPairs, IfOk, OnOk, length};
 ghost use Rattle.cb_matrix.specs.Sparse.{IsMatrix};
 ghost use Rattle.cb_matrix.specs.Values.{product, product_shape, empty_matrix};
-ghost use Rattle.cb_operations.specs.Selected.{excluded};
+ghost use Rattle.cb_operations.specs.SelectionAnswers.{excluded};
 ghost use Rattle.cb_product.specs.ColumnStarts.{Tells};
 ghost use Rattle.cb_dcsc.specs.Columns.{columns_with_entries};
 ghost use Rattle.cb_masked.specs.SomeColumns.{only_places};

@@ -13,7 +13,7 @@ use Rattle.cb_operations.specs.declared.refusals.ComputeFault.TheVariants.{Refus
 use Rattle.cb_operations.specs.OperationAnswers as operations
 use Rattle.cb_operations.specs.OperationAnswers.{matrix_at, shapes_in}
 use Rattle.cb_operations.specs.SelectionAnswers as selections
-use Rattle.cb_operations.specs.Selected.{excluded}
+use Rattle.cb_operations.specs.SelectionAnswers.{excluded}
 
 -- how many matrices it takes
 abbrev pub operand_count_of : Computation → ℕ

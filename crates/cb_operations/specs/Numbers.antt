@@ -5,14 +5,11 @@ use Rattle.cb_matrix.specs.declared.passing.Test.TheVariants.{Below, Above, Equa
 use Rattle.cb_operations.specs.declared.operations.Operation.{Operation}
 use Rattle.cb_operations.specs.declared.operations.Operation.TheVariants.{Multiply, MultiplyMasked, MultiplyVector, Transpose}
 use Rattle.cb_operations.specs.declared.operations.Operation.TheVariants.{RowSums, ColumnSums, Add, Times, Prune}
-use Rattle.cb_operations.specs.declared.regions.Diagonal.{Diagonal}
-use Rattle.cb_operations.specs.declared.regions.Region.TheVariants.{Lower, Upper, On, Off}
-use Rattle.cb_operations.specs.declared.functions.Function.TheVariants as function_is
-use Rattle.cb_operations.specs.declared.selections.Selection.{Selection}
 use Rattle.cb_operations.specs.declared.selections.Selection.TheVariants as selection_is
 use Rattle.cb_operations.specs.declared.computations.Computation.{Computation}
 use Rattle.cb_operations.specs.declared.computations.Computation.TheVariants as computation_is
 use Rattle.cb_operations.specs.declared.numbers.Choice.{Choice}
+use Rattle.cb_operations.specs.SelectionAnswers.{selection_of}
 
 -- the operation of a number, 0 to 10, with the value that prunes compare with
 abbrev pub operation_of : ℕ → ℕ → Option Operation
@@ -28,30 +25,6 @@ operation_of n value =
     else (if n == 8 then Some (Prune (Below value))
     else (if n == 9 then Some (Prune (Above value))
     else (if n == 10 then Some (Prune (Equal value)) else None))))))))))
-
--- the place on the diagonal of a choice
-abbrev pub diagonal_of : Choice → Diagonal
-diagonal_of c = record { row = c.row; column = c.column }
-
--- the selection of a choice by its number, 11 to 26
-abbrev pub selection_of : Choice → Option Selection
-selection_of c =
-    if c.number == 11 then Some (selection_is.Select (Lower (diagonal_of c)))
-    else (if c.number == 12 then Some (selection_is.Select (Upper (diagonal_of c)))
-    else (if c.number == 13 then Some (selection_is.Select (On (diagonal_of c)))
-    else (if c.number == 14 then Some (selection_is.Select (Off (diagonal_of c)))
-    else (if c.number == 15 then Some (selection_is.Apply (function_is.Constant c.value))
-    else (if c.number == 16 then Some (selection_is.Apply (function_is.Sum c.value))
-    else (if c.number == 17 then Some (selection_is.Apply (function_is.LeftProduct c.value))
-    else (if c.number == 18 then Some (selection_is.Apply (function_is.RightProduct c.value))
-    else (if c.number == 19 then Some (selection_is.Apply function_is.Row)
-    else (if c.number == 20 then Some (selection_is.Apply function_is.Column)
-    else (if c.number == 21 then Some selection_is.Diagonal
-    else (if c.number == 22 then Some selection_is.DiagonalMatrix
-    else (if c.number == 23 then Some (selection_is.Part (c.row, c.row_end) (c.column, c.column_end))
-    else (if c.number == 24 then Some selection_is.Kronecker
-    else (if c.number == 25 then Some (selection_is.Assign (c.row, c.column))
-    else (if c.number == 26 then Some selection_is.Exclude else None)))))))))))))))
 
 -- the power with n factors; there is none with 0
 abbrev pub IsPowerOf : ℕ → Option Computation → Type 0

@@ -1,11 +1,9 @@
 //! Computations by numbers, as programs in other languages name them.
 ghost use Rattle.std.specs.Prelude.{◌≡◌};
-ghost use Rattle.cb_operations.specs.Numbers.{IsChosen, IsPowerOf, operation_of, selection_of};
+ghost use Rattle.cb_operations.specs.Numbers.{IsChosen, IsPowerOf, operation_of};
 
 use crate::computations::Computation;
-use crate::functions::Function;
 use crate::operations::Operation;
-use crate::regions::{Diagonal, Region};
 use crate::selections::Selection;
 use cb_matrix::Test;
 use std::num::NonZeroU32;
@@ -37,11 +35,8 @@ impl Operation {
 #[repr(C)]
 #[derive(Clone, Copy)]
 pub struct Choice {
-    /// 0 to 10 for an operation ([`Operation::numbered`]). 11 to 14 for the entries in a region: the lower and the upper triangle,
-    /// the diagonal, and all off it. 15 to 20 for a function of each entry: the constant, the sum, the products from the left and
-    /// from the right, the row and the column. 21 for the diagonal, 22 for the matrix of a diagonal, 23 for a part, 24 for the
-    /// Kronecker product, 25 for one matrix put into another, 26 for the entries outside a mask, 27 for a power, and 28 for the
-    /// product outside a mask.
+    /// 0 to 10 for an operation ([`Operation::numbered`]), 27 for a power, 28 for the product outside a mask, and any other for the
+    /// selection that has it ([`Selection::numbered`]).
     pub number: u32,
     /// A row on the diagonal of a region, or the first of a part.
     pub row: u32,
@@ -69,35 +64,8 @@ impl Computation {
         match choice.number {
             27 => power_of(choice.factors),
             28 => Some(Computation::MultiplyOutside),
-            _ => Some(Computation::Selection(selection_of(choice)?)),
+            _ => Some(Computation::Selection(Selection::numbered(choice)?)),
         }
-    }
-}
-
-/// The selection of a choice that isn't a power.
-fn selection_of(choice: &Choice) -> Option<Selection>
-    ensures { result ≡ selection_of choice.now }
-{
-    let (row, column) = (choice.row, choice.column);
-    let (diagonal, value) = (Diagonal { row, column }, choice.value);
-    match choice.number {
-        11 => Some(Selection::Select(Region::Lower(diagonal))),
-        12 => Some(Selection::Select(Region::Upper(diagonal))),
-        13 => Some(Selection::Select(Region::On(diagonal))),
-        14 => Some(Selection::Select(Region::Off(diagonal))),
-        15 => Some(Selection::Apply(Function::Constant(value))),
-        16 => Some(Selection::Apply(Function::Sum(value))),
-        17 => Some(Selection::Apply(Function::LeftProduct(value))),
-        18 => Some(Selection::Apply(Function::RightProduct(value))),
-        19 => Some(Selection::Apply(Function::Row)),
-        20 => Some(Selection::Apply(Function::Column)),
-        21 => Some(Selection::Diagonal),
-        22 => Some(Selection::DiagonalMatrix),
-        23 => Some(Selection::Part((row, choice.row_end), (column, choice.column_end))),
-        24 => Some(Selection::Kronecker),
-        25 => Some(Selection::Assign((row, column))),
-        26 => Some(Selection::Exclude),
-        _ => None,
     }
 }
 

@@ -2,11 +2,12 @@
 ghost use Rattle.std.specs.Prelude.{◌≡◌, ◌≢◌, ◌↔◌, ◌≤◌, ◌*◌, IsTrue, length};
 ghost use Rattle.cb_matrix.specs.declared.TheConstants.{LIMIT};
 ghost use Rattle.cb_operations.specs.Functions.{TakesValues};
-ghost use Rattle.cb_operations.specs.SelectionAnswers.{operand_count_of, FitsAt, FitsLimit, IsPartOf, Suits, refusal_of};
+ghost use Rattle.cb_operations.specs.SelectionAnswers.{operand_count_of, FitsAt, FitsLimit, IsPartOf, Suits, refusal_of, selection_of};
 
 use crate::functions::Function;
+use crate::numbers::Choice;
 use crate::refusals::Refusal;
-use crate::regions::Region;
+use crate::regions::{Diagonal, Region};
 use cb_matrix::{LIMIT, Shape};
 use cb_semirings::Semiring;
 use std::num::NonZeroU32;
@@ -87,6 +88,36 @@ impl Selection {
             Selection::Kronecker => fits_limit(shapes[0], shapes[1]),
             Selection::Assign(corner) => fits_at(corner, shapes[1], shapes[0]),
             Selection::Exclude => shapes[1] == shapes[0],
+        }
+    }
+
+    /// Returns the selection of a choice that isn't a power, by its number. 11 to 14 are the entries in a region: the lower and the
+    /// upper triangle, the diagonal, and all off it. 15 to 20 are a function of each entry: the constant, the sum, the products
+    /// from the left and from the right, the row and the column. 21 is the diagonal, 22 the matrix of a diagonal, 23 a part, 24
+    /// the Kronecker product, 25 one matrix put into another, and 26 the entries outside a mask. No other number has one.
+    pub fn numbered(choice: &Choice) -> Option<Selection>
+        ensures { result ≡ selection_of choice.now }
+    {
+        let (row, column) = (choice.row, choice.column);
+        let (diagonal, value) = (Diagonal { row, column }, choice.value);
+        match choice.number {
+            11 => Some(Selection::Select(Region::Lower(diagonal))),
+            12 => Some(Selection::Select(Region::Upper(diagonal))),
+            13 => Some(Selection::Select(Region::On(diagonal))),
+            14 => Some(Selection::Select(Region::Off(diagonal))),
+            15 => Some(Selection::Apply(Function::Constant(value))),
+            16 => Some(Selection::Apply(Function::Sum(value))),
+            17 => Some(Selection::Apply(Function::LeftProduct(value))),
+            18 => Some(Selection::Apply(Function::RightProduct(value))),
+            19 => Some(Selection::Apply(Function::Row)),
+            20 => Some(Selection::Apply(Function::Column)),
+            21 => Some(Selection::Diagonal),
+            22 => Some(Selection::DiagonalMatrix),
+            23 => Some(Selection::Part((row, choice.row_end), (column, choice.column_end))),
+            24 => Some(Selection::Kronecker),
+            25 => Some(Selection::Assign((row, column))),
+            26 => Some(Selection::Exclude),
+            _ => None,
         }
     }
 }

@@ -1,14 +1,13 @@
 //! What is computed of matrices by several threads, which share the operands.
 ghost use Rattle.std.specs.Prelude.{◌≡◌, ◌<◌, [], ◌∷◌, length, IfOk, IfErr};
-ghost use Rattle.cb_matrix.specs.Values.{product};
 ghost use Rattle.cb_operations.specs.Computations.{operand_count_of, Suits, answer_of, IsFaultOf};
 ghost use Rattle.cb_operations.specs.OperationAnswers.{shapes_in};
 ghost use Rattle.cb_operations.specs.Operands.{lent_in};
 ghost use Rattle.cb_panels.specs.Shared.{AreShared};
 ghost use Rattle.cb_shares.specs.Shares.{AreEnds};
 
+use crate::Panels;
 use crate::ranges::{make_all, make_whole};
-use crate::{Panels, multiply_panels};
 use cb_layout::PanelledMatrix;
 use cb_operations::{Computation, ComputeFault, Operation};
 use cb_semirings::Semiring;
@@ -37,7 +36,7 @@ fn ends_of_one<S: Semiring>(
     Ok(Vec::new(alloc))
 }
 
-/// Where those of a product under a mask or outside it end: each takes about the same number of products of two values.
+/// Where those of a product end, also under a mask or outside it: each takes about the same number of products of two values.
 fn ends_of_product<S: Semiring>(
     alloc: Global,
     panels: Panels,
@@ -52,6 +51,23 @@ fn ends_of_product<S: Semiring>(
     prove_eq!(left.block().shape().cols(), right.block().shape().rows());
     let count = panels.most as usize;
     ends_of(alloc, left.block(), right.block(), count, panels.least)
+}
+
+/// Where the ranges end that threads make of what is computed of two matrices. They share a product of them.
+fn ends_of_two<S: Semiring>(
+    alloc: Global,
+    panels: Panels,
+    computation: Computation,
+    a: &PanelledMatrix<S>,
+    b: &PanelledMatrix<S>,
+) -> Result<Vec<u32>, AllocError>
+    requires { Suits computation S.arithmetic (shapes_in (a.now ∷ b.now ∷ [])) }
+    ensures { IfOk result (λ ends. 0 < length ends.items → AreEnds (length ends.items) (answer_of computation S.arithmetic (a.now ∷ b.now ∷ [])).shape.cols ends.items) }
+{
+    if let Computation::Operation(Operation::Multiply) = computation {
+        return ends_of_product(alloc, panels, a, b);
+    }
+    Ok(Vec::new(alloc))
 }
 
 /// Where the ranges of columns end that threads make of a result. There are none if one thread makes all columns.
@@ -74,25 +90,9 @@ fn range_ends<S: Semiring>(
     match operands {
         [a] => ends_of_one(alloc, panels, computation, a),
         [a, b, _mask] => ends_of_product(alloc, panels, a, b),
+        [a, b] => ends_of_two(alloc, panels, computation, a, b),
         _ => Ok(Vec::new(alloc)),
     }
-}
-
-/// A product of matrices.
-fn multiplied<S: Semiring + Send + Sync, R: Threads + Sync>(
-    rt: &R,
-    alloc: Global,
-    panels: Panels,
-    a: &PanelledMatrix<S>,
-    b: &PanelledMatrix<S>,
-) -> Result<PanelledMatrix<S>, AllocError>
-    requires { a.now.shape.cols ≡ b.now.shape.rows }
-    ensures { IfOk result (λ m. m ≡ product S.arithmetic a.now b.now) }
-{
-    let left = a.whole()?;
-    let right = b.whole()?;
-    prove_eq!(left.block().shape().cols(), right.block().shape().rows());
-    multiply_panels(rt, alloc, panels, left.block(), right.block())
 }
 
 /// What is computed of matrices that suit it.
@@ -106,11 +106,6 @@ fn computed<S: Semiring + Send + Sync, R: Threads + Sync>(
     requires { AreShared S.arithmetic computation operands.now }
     ensures { IfOk result (λ m. m ≡ answer_of computation S.arithmetic (lent_in operands.now)) }
 {
-    if let Computation::Operation(Operation::Multiply) = computation {
-        if let [a, b] = operands {
-            return multiplied(rt, alloc, panels, a, b);
-        }
-    }
     let ends = range_ends(alloc, panels, computation, operands)?;
     if ends.is_empty() {
         return make_whole(alloc, computation, operands);
@@ -123,8 +118,9 @@ fn computed<S: Semiring + Send + Sync, R: Threads + Sync>(
 /// of matrices, also under a mask or outside it. Each makes some columns, which stay in a panel of their own. This thread alone
 /// does all else, and what is computed of few entries. What is refused is refused before memory is requested.
 ///
-/// Costs what it costs by one thread, divided among the threads. Each thread copies its columns of an operand; and an operand in
-/// several panels is copied where nothing is shared, and as the left factor of a product.
+/// Costs what it costs by one thread, divided among the threads. Each thread copies its columns of an operand, and for a product
+/// has an index of the left factor's columns; an operand in several panels is copied where nothing is shared, and by each thread as
+/// the left factor of a product.
 pub fn compute<S: Semiring + Send + Sync, R: Threads + Sync>(
     rt: &R,
     alloc: Global,

@@ -19,12 +19,3 @@ pub use placewise::{grid_add, grid_prune, grid_times};
 pub use reduction_plans::{grid_column_sums, grid_row_sums};
 pub use transposes::grid_transpose;
 pub use vector_plans::grid_vector;
-
-/// The slot of each rank that has its block of the first matrix.
-pub const LEFT: u16 = 0;
-
-/// The slot of each rank that has its block of the second matrix, or its piece of the vector.
-pub const RIGHT: u16 = 1;
-
-/// The slot of each rank that has its block, or its piece, of the answer after the plan.
-pub const RESULT: u16 = 2;

@@ -1,16 +1,16 @@
 //! Element-wise operations: each rank works on its own blocks.
 ghost use Rattle.std.specs.Prelude.{◌≡◌, ◌<◌, ◌*◌, IfOk, IfErr};
 ghost use Rattle.cb_plan.specs.Runnable.{IsRunnable};
+ghost use Rattle.cb_plan_parts.specs.declared.TheConstants.{LEFT, RESULT, RIGHT};
 ghost use Rattle.cb_plan_parts.specs.PlanParts.{each_rank, operand_starts, NamesSlots};
 ghost use Rattle.cb_plan_parts.specs.Flows.{FlowsFrom};
 ghost use Rattle.cb_plan_parts.specs.Growth.{no_memory};
 ghost use Rattle.cb_plan_operations.specs.GridPlans.{one_operand, two_operands, placewise_acts, IsSumPlan, IsTimesPlan, IsPrunePlan};
 
-use crate::{LEFT, RESULT, RIGHT};
 use cb_grid::Grid;
 use cb_matrix::{Shape, Test};
 use cb_plan::{Op, Plan, PlanFault, Planned};
-use cb_plan_parts::{Operand, finish, operand_starts, work_everywhere};
+use cb_plan_parts::{LEFT, Operand, RESULT, RIGHT, finish, operand_starts, work_everywhere};
 use std::alloc::{AllocError, Global};
 
 /// The plan of the sum of two matrices of this shape.

@@ -8,6 +8,7 @@ ghost use Rattle.std.specs.Prelude.{◌≡◌, ◌<◌, ◌*◌, ◌/◌, ◌%�
 ghost use Rattle.std.specs.List.{range_with_len};
 ghost use Rattle.cb_plan.specs.Runnable.{IsRunnable};
 ghost use Rattle.cb_grid.specs.Parts.{part, part_length};
+ghost use Rattle.cb_plan_parts.specs.declared.TheConstants.{RESULT};
 ghost use Rattle.cb_plan_parts.specs.Collectives.{shut_acts};
 ghost use Rattle.cb_plan_parts.specs.PlanParts.{each_rank, operand_starts};
 ghost use Rattle.cb_plan_parts.specs.Flows.{FlowsFrom};
@@ -20,11 +21,10 @@ ghost use Rattle.cb_plan_operations.specs.ReductionPlans.{turned, turned_sums_ac
 use crate::placewise::one_operand;
 use crate::transposes::send_across;
 use crate::vector_plans::{PIECES, SUMMANDS, add_up, broadcast_pieces, work};
-use crate::{LEFT, RESULT, RIGHT};
 use cb_grid::Grid;
 use cb_matrix::Shape;
 use cb_plan::{Op, Plan, PlanFault, Planned};
-use cb_plan_parts::{finish, operand_starts, work_everywhere};
+use cb_plan_parts::{LEFT, RESULT, RIGHT, finish, operand_starts, work_everywhere};
 use std::alloc::{AllocError, Global};
 
 /// The slot of the column sums of a rank's block.

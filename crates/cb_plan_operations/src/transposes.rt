@@ -1,17 +1,17 @@
 //! The transpose: each rank transposes its block, and the blocks cross the diagonal.
 ghost use Rattle.std.specs.Prelude.{◌≡◌, ◌<◌, ◌*◌, IfOk, IfErr, OnOk};
 ghost use Rattle.cb_plan.specs.Runnable.{IsRunnable};
+ghost use Rattle.cb_plan_parts.specs.declared.TheConstants.{RESULT};
 ghost use Rattle.cb_plan_parts.specs.PlanParts.{operand_starts};
 ghost use Rattle.cb_plan_parts.specs.Growth.{IsWithinLimit, Grew, no_memory};
 ghost use Rattle.cb_plan_operations.specs.GridPlans.{one_operand, mirrored, mirror_acts, transpose_acts, IsTransposePlan};
 
 use crate::placewise::one_operand;
-use crate::{LEFT, RESULT};
 use cb_grid::Grid;
 use cb_letters::Tag;
 use cb_matrix::Shape;
 use cb_plan::{Op, Plan, PlanFault, Planned};
-use cb_plan_parts::{finish, operand_starts, send, work_everywhere};
+use cb_plan_parts::{LEFT, RESULT, finish, operand_starts, send, work_everywhere};
 use std::alloc::{AllocError, Global};
 
 /// The slot of each rank that has its own block transposed.

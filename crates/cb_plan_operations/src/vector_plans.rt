@@ -10,17 +10,17 @@ ghost use Rattle.cb_plan.specs.Plans.{IsElsewhere};
 ghost use Rattle.cb_plan.specs.declared.stores.TheConstants.{SLOTS};
 ghost use Rattle.cb_grid.specs.Parts.{part_length};
 ghost use Rattle.cb_grid.specs.Pieces.{piece_shape};
+ghost use Rattle.cb_plan_parts.specs.declared.TheConstants.{RESULT};
 ghost use Rattle.cb_plan_parts.specs.Growth.{IsWithinLimit, Grew, no_memory};
 ghost use Rattle.cb_plan_operations.specs.VectorPlans.{column, vector_starts_at, vector_starts, works, each_works, vector_acts, IsVectorPlan};
 ghost use Rattle.cb_plan_operations.specs.VectorPlans.{piece_broadcast, part_broadcasts, piece_broadcasts, add_piece, product_ops, products_at};
 ghost use Rattle.cb_plan_operations.specs.VectorPlans.{piece_cut, cut_ops, cuts_at, exchange, exchanges, next_summand, sum_ops, spread_product_acts};
 
-use crate::{LEFT, RESULT, RIGHT};
 use cb_grid::{Grid, LARGEST_SIDE};
 use cb_letters::Tag;
 use cb_matrix::Shape;
 use cb_plan::{Act, Op, Plan, PlanFault, Planned, Start};
-use cb_plan_parts::{all_to_all, broadcast, finish};
+use cb_plan_parts::{LEFT, RESULT, RIGHT, all_to_all, broadcast, finish};
 use std::alloc::{AllocError, Global};
 
 /// The slot in which a rank assembles its part of the vector.

@@ -33,3 +33,12 @@ pub use gathers::gather;
 pub use reductions::reduce;
 pub use steps::send;
 pub use works::{work_everywhere, zero_everywhere};
+
+/// The slot of each rank that has its block of the first matrix.
+pub const LEFT: u16 = 0;
+
+/// The slot of each rank that has its block of the second matrix, or its piece of a vector.
+pub const RIGHT: u16 = 1;
+
+/// The slot of each rank that has its block, or its piece, of the answer in the end.
+pub const RESULT: u16 = 2;

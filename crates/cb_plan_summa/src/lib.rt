@@ -19,6 +19,7 @@
 
 ghost use Rattle.std.specs.Prelude.{◌≡◌, ◌*◌, IfOk, IfErr};
 ghost use Rattle.cb_plan.specs.Runnable.{IsRunnable};
+ghost use Rattle.cb_plan_parts.specs.declared.TheConstants.{RESULT};
 ghost use Rattle.cb_plan_parts.specs.PlanParts.{operand_starts};
 ghost use Rattle.cb_plan_parts.specs.Growth.{no_memory};
 ghost use Rattle.cb_plan_summa.specs.Summa.{summa_acts, factors, IsProductPlan};
@@ -29,19 +30,10 @@ mod products;
 use cb_grid::{Grid, LARGEST_SIDE};
 use cb_matrix::Shape;
 use cb_plan::{Plan, PlanFault, Planned};
-use cb_plan_parts::{Operand, finish, operand_starts};
+use cb_plan_parts::{LEFT, Operand, RESULT, RIGHT, finish, operand_starts};
 pub use masked::summa_masked;
 use products::multiply;
 use std::alloc::{AllocError, Global};
-
-/// The slot of each rank that has its block of the first matrix.
-pub const LEFT: u16 = 0;
-
-/// The slot of each rank that has its block of the second matrix.
-pub const RIGHT: u16 = 1;
-
-/// The slot of each rank that has its block of the product in the end.
-pub const RESULT: u16 = 2;
 
 /// The slot of each rank that has its block of the mask.
 pub const MASK: u16 = 7;

@@ -1,16 +1,17 @@
 //! The plan of a product under a mask.
 ghost use Rattle.std.specs.Prelude.{◌≡◌, ◌*◌, IfOk, IfErr};
 ghost use Rattle.cb_plan.specs.Runnable.{IsRunnable};
+ghost use Rattle.cb_plan_parts.specs.declared.TheConstants.{RESULT};
 ghost use Rattle.cb_plan_parts.specs.PlanParts.{operand_starts};
 ghost use Rattle.cb_plan_parts.specs.Growth.{no_memory};
 ghost use Rattle.cb_plan_summa.specs.Summa.{summa_masked_acts, masked_factors, IsMaskedPlan};
 
+use crate::MASK;
 use crate::products::multiply;
-use crate::{LEFT, MASK, RESULT, RIGHT};
 use cb_grid::{Grid, LARGEST_SIDE};
 use cb_matrix::Shape;
 use cb_plan::{Op, Plan, PlanFault, Planned};
-use cb_plan_parts::{Operand, finish, operand_starts, work_everywhere};
+use cb_plan_parts::{LEFT, Operand, RESULT, RIGHT, finish, operand_starts, work_everywhere};
 use std::alloc::{AllocError, Global};
 
 /// The plan of the product of a matrix of shape `a` and one of shape `b`, under a mask of the product's shape whose

@@ -5,12 +5,11 @@ ghost use Rattle.cb_plan_parts.specs.Growth.{IsWithinLimit, Grew, no_memory};
 ghost use Rattle.cb_grid.specs.declared.TheConstants.{LARGEST_SIDE};
 ghost use Rattle.cb_plan_summa.specs.Summa.{left_slot, right_slot, row_broadcast, column_broadcast, broadcasts, all_broadcasts, all_products, product_acts};
 
-use crate::{LEFT, RESULT, RIGHT};
 use cb_grid::Grid;
 use cb_letters::Tag;
 use cb_matrix::Shape;
 use cb_plan::{Op, Plan, PlanFault};
-use cb_plan_parts::{broadcast, work_everywhere, zero_everywhere};
+use cb_plan_parts::{LEFT, RESULT, RIGHT, broadcast, work_everywhere, zero_everywhere};
 use std::alloc::Global;
 
 /// Slot 2 of each rank gets its block of the product. The blocks of all stages come before the first product.

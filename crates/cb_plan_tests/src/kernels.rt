@@ -8,9 +8,9 @@ use cb_layout::Grid;
 use cb_matrix::{Shape, Test};
 use cb_plan::{CheckedPlan, PlanFault, PlanFaultKind, Planned, RankStore, SLOTS, Slot};
 use cb_plan_operations::{
-    LEFT, RESULT, RIGHT, grid_add, grid_column_sums, grid_prune, grid_row_sums, grid_times,
-    grid_transpose, grid_vector,
+    grid_add, grid_column_sums, grid_prune, grid_row_sums, grid_times, grid_transpose, grid_vector,
 };
+use cb_plan_parts::{LEFT, RESULT, RIGHT};
 use cb_plan_vectors::scatter_input;
 use cb_rank_work::run_plain;
 use cb_samples::{SampleFault, entries, shape};

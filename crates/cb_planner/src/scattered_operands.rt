@@ -14,7 +14,8 @@ use cb_layout::{DistributedMatrix, Grid};
 use cb_matrix::{Matrix, Shape};
 use cb_operations::{Operands, Operation};
 use cb_plan::Planned;
-use cb_plan_summa::{LEFT, MASK, RIGHT};
+use cb_plan_parts::{LEFT, RIGHT};
+use cb_plan_summa::MASK;
 use cb_semirings::Semiring;
 use std::alloc::{AllocError, Global};
 

@@ -15,7 +15,7 @@ use Rattle.cb_product.proofs.ProductColumns.{own_column}
 use Rattle.cb_product.proofs.StoredColumn.{AddsColumn}
 use Rattle.cb_product.proofs.ColumnsMade.{IsMadeTo, made_none, made_past, made_more, made_all, absent_value}
 use Rattle.cb_reshape.proofs.Within.{row_in, row_out}
-use Rattle.cb_operations.specs.Selected.{assigned}
+use Rattle.cb_operations.specs.SelectionAnswers.{assigned}
 use Rattle.cb_selections.specs.Extracted.{is_between}
 use Rattle.cb_selections.specs.KernelSteps.{IsFirstFrom, HasRowsReplaced}
 use Rattle.cb_selections.proofs.KeptColumns.{made_columns}

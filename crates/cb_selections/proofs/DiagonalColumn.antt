@@ -15,7 +15,7 @@ use Rattle.cb_matrix.proofs.Made.{at-outside}
 use Rattle.cb_matrix.proofs.Equal.{matrix_is}
 use Rattle.cb_dcsc.specs.Columns.{with_entries}
 use Rattle.cb_product.specs.InColumns.{AreInColumns}
-use Rattle.cb_operations.specs.Selected.{diagonal_of}
+use Rattle.cb_operations.specs.SelectionAnswers.{diagonal_of}
 use Rattle.cb_product.proofs.ColumnsMade.{before_first, between, below_next, absent_value}
 
 -- `out` has the values of f in the rows of its column below r, and no entry from there on

@@ -16,8 +16,8 @@ use Rattle.cb_operations.specs.declared.functions.Function.TheVariants.{Constant
 use Rattle.cb_operations.specs.Functions.{operand_of, function_value}
 use Rattle.cb_selections.specs.KernelSteps.{AreMade, IsResult, depends_on_column}
 use Rattle.cb_elementwise.specs.RuleLaws.{function_value-value}
-use Rattle.cb_operations.specs.Selected.{of_stored}
-use Rattle.cb_operations.specs.Selected.{applied}
+use Rattle.cb_operations.specs.SelectionAnswers.{of_stored}
+use Rattle.cb_operations.specs.SelectionAnswers.{applied}
 use Rattle.cb_selections.specs.KernelSteps.{results_of}
 use Rattle.cb_elementwise.proofs.ReplacedColumn.{of_stored-some, of_stored-none}
 

@@ -15,7 +15,7 @@ use Rattle.cb_dcsc.specs.Columns.{in_column, rows_of, values_of, row_value}
 use Rattle.cb_product.specs.InColumns.{AreInColumns}
 use Rattle.cb_product.proofs.ProductColumns.{own_column}
 use Rattle.cb_product.proofs.StoredColumn.{AddsColumn}
-use Rattle.cb_operations.specs.Selected.{pair_shape, pair_value, kronecker}
+use Rattle.cb_operations.specs.SelectionAnswers.{pair_shape, pair_value, kronecker}
 use Rattle.cb_selections.specs.KernelSteps.{IsPaired}
 use Rattle.cb_product.proofs.ColumnsMade.{IsMadeTo, made_none, made_past, made_more, made_all, absent_value}
 use Rattle.cb_selections.proofs.NumberPairs.{pairs_none, pairs_next, pairs_all, pair_none, pair_next, pair_all}

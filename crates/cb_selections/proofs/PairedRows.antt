@@ -10,7 +10,7 @@ use Rattle.cb_dcsc.specs.Columns.{row_value}
 use Rattle.cb_dcsc.proofs.Lookup.{row_value-found, row_value-absent}
 use Rattle.cb_product.specs.SparseColumn.{IsSparseColumn}
 use Rattle.cb_product.proofs.RowValues.{absent_above, row_value-value}
-use Rattle.cb_operations.specs.Selected.{pair_value}
+use Rattle.cb_operations.specs.SelectionAnswers.{pair_value}
 use Rattle.cb_selections.proofs.ListMade.{IsListTo, list_none, list_past, list_kept, list_dropped}
 use Rattle.cb_selections.proofs.NumberPairs.{pairs_none, pairs_next, pairs_all, pair_none, pair_next, pair_all}
 

@@ -3,7 +3,7 @@ use Rattle.std.proofs.Common.{◌≡◌, ℕ, zero, suc, ◌+◌, ◌-◌, ◌�
 use Rattle.cb_semirings.specs.Arithmetic.{Arithmetic}
 use Rattle.cb_matrix.specs.Sparse.{Sparse}
 use Rattle.cb_matrix.specs.Values.{product}
-use Rattle.cb_operations.specs.Selected.{times_itself, power}
+use Rattle.cb_operations.specs.SelectionAnswers.{times_itself, power}
 
 module _ (s : Arithmetic) (a : Sparse) where
   -- a power has as many columns as the matrix

@@ -7,8 +7,8 @@ use Rattle.cb_matrix.specs.Sparse.{Sparse, at}
 use Rattle.cb_matrix.proofs.Made.{same_matrix_of}
 use Rattle.cb_operations.specs.declared.regions.Region.{Region}
 use Rattle.cb_operations.specs.Regions.{is_in, where_true}
-use Rattle.cb_operations.specs.Selected.{of_stored, replaced}
-use Rattle.cb_operations.specs.Selected.{selected}
+use Rattle.cb_operations.specs.SelectionAnswers.{of_stored, replaced}
+use Rattle.cb_operations.specs.SelectionAnswers.{selected}
 use Rattle.cb_selections.proofs.DiagonalPlaces.{zero_where}
 use Rattle.cb_elementwise.proofs.ReplacedColumn.{of_stored-some, of_stored-none}
 

@@ -8,7 +8,7 @@ use Rattle.cb_operations.specs.declared.regions.Region.TheVariants.{Lower, Upper
 use Rattle.cb_operations.specs.declared.functions.Function.{Function}
 use Rattle.cb_operations.specs.declared.functions.Function.TheVariants.{Constant, Sum, LeftProduct, RightProduct, Row, Column}
 use Rattle.cb_operations.specs.Functions.{function_value}
-use Rattle.cb_operations.specs.Selected.{pair_value}
+use Rattle.cb_operations.specs.SelectionAnswers.{pair_value}
 use Rattle.cb_selections.specs.Extracted.{is_between}
 
 -- whether the rows of a region follow one another in each column

@@ -4,7 +4,7 @@ ghost use Rattle.cb_matrix.specs.Sparse.{IsMatrix};
 ghost use Rattle.cb_matrix.specs.Values.{empty_matrix};
 ghost use Rattle.cb_dcsc.specs.Columns.{in_column, rows_of, values_of, columns_with_entries};
 ghost use Rattle.cb_product.specs.SparseColumn.{IsSparseColumn};
-ghost use Rattle.cb_operations.specs.Selected.{assigned};
+ghost use Rattle.cb_operations.specs.SelectionAnswers.{assigned};
 ghost use Rattle.cb_selections.specs.KernelSteps.{IsFirstFrom, HasRowsReplaced};
 
 use cb_dcsc::{Block, first_from};

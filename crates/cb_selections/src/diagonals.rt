@@ -5,7 +5,7 @@ ghost use Rattle.cb_matrix.specs.Combined.{stored};
 ghost use Rattle.cb_matrix.specs.Sparse.{IsMatrix, IsBefore, IsInside};
 ghost use Rattle.cb_matrix.specs.Values.{empty_matrix};
 ghost use Rattle.cb_dcsc.specs.Columns.{row_value, with_entries};
-ghost use Rattle.cb_operations.specs.Selected.{diagonal_of, diagonal_matrix};
+ghost use Rattle.cb_operations.specs.SelectionAnswers.{diagonal_of, diagonal_matrix};
 
 use crate::shape_of;
 use cb_dcsc::Block;

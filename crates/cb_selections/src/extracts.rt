@@ -6,7 +6,7 @@
 //! in order; otherwise they are sorted (`sorted_rows`).
 //!
 //! The columns of a range of the result are made alone, so that threads can share them.
-ghost use Rattle.std.specs.Prelude.{◌≡◌, ℕ, ◌<◌, ◌≤◌, IsTrue, None, option_copied, length, take, slice_index, All, AllPairs, IfOk, IfSome, OnOk};
+ghost use Rattle.std.specs.Prelude.{◌≡◌, ℕ, ◌<◌, ◌≤◌, ◌-◌, IsTrue, None, option_copied, length, take, slice_index, All, AllPairs, IfOk, IfSome, OnOk};
 ghost use Rattle.cb_semirings.specs.Arithmetic.{IsValue};
 ghost use Rattle.cb_matrix.specs.Sparse.{IsMatrix};
 ghost use Rattle.cb_matrix.specs.Values.{empty_matrix};
@@ -15,8 +15,9 @@ ghost use Rattle.cb_selections.specs.Extracted.{AreBelow, AreFew, columns_betwee
 ghost use Rattle.cb_selections.specs.ListedRows.{HoldPlaces, ArePlaces, IsListed};
 ghost use Rattle.cb_selections.specs.RowTables.{IsRowTable};
 
-use crate::shape_of;
+use crate::column_places::{ColumnPlaces, column_at, places_of_columns};
 use crate::sorted_rows::{KeptColumn, write_sorted};
+use crate::{expected, shape_of};
 use cb_dcsc::Block;
 use cb_lists::ascends;
 use cb_matrix::LIMIT;
@@ -103,28 +104,12 @@ fn both_between<S: Semiring>(
     if are_all(rows, block.shape().rows()) {
         return columns_between(alloc, block, cols, first, end);
     }
-    let entries = entries_between(block, cols, first, end);
-    if let Some(table) = table_of(alloc, block.shape().rows(), rows, entries)? {
-        return listed_between(alloc, block, rows, &table, cols, first, end, entries);
+    let found = places_of_columns(alloc, block, &cols[first..end])?;
+    if let Some(table) = table_of(alloc, block.shape().rows(), rows, found.entries)? {
+        return listed_between(alloc, block, rows, &table, cols, &found, first, end);
     }
     let some = columns_between(alloc, block, cols, first, end)?;
     turned_rows(alloc, &some, rows)
-}
-
-/// How many entries these columns of a block have together.
-fn entries_between<S: Semiring>(block: &Block<S>, cols: &[u32], first: usize, end: usize) -> usize
-    requires order { first ≤ end }
-    requires within { end ≤ length cols.now }
-{
-    let mut count = 0usize;
-    let mut missing = 0usize;
-    for n in first..end {
-        let place = place_near(block.column_numbers(), cols[n], missing);
-        missing = (cols[n] as usize).saturating_sub(place);
-        let (rows, _values) = column_of(block, cols[n], place);
-        count = count.saturating_add(rows.len());
-    }
-    count
 }
 
 /// Whether a table of all rows of a block costs no more than its listed rows or the entries that are looked up.
@@ -176,27 +161,26 @@ fn listed_between<S: Semiring>(
     listed: &[u32],
     table: &RowTable,
     cols: &[u32],
+    found: &ColumnPlaces,
     first: usize,
     end: usize,
-    entries: usize,
 ) -> Result<Block<S>, AllocError>
     requires row_limit { length listed.now ≤ LIMIT }
     requires column_limit { length cols.now ≤ LIMIT }
     requires table { IsRowTable block.now.shape.rows listed.now table.now }
     requires order { first ≤ end }
     requires within { end ≤ length cols.now }
+    requires places { length found.now.places.items ≡ end - first }
     ensures { IfOk result (λ part. part ≡ extracted_between S.arithmetic listed.now cols.now first end block.now) }
 {
     let mut out = Block::empty(alloc, shape_of(listed.len() as u32, cols.len() as u32));
-    out.reserve(expected(block.shape().rows(), listed.len(), entries))?;
+    let height = block.shape().rows() as usize;
+    out.reserve(expected(found.entries, listed.len(), height))?;
     let mut kept = KeptColumn::new(alloc);
-    push_both(&mut out, &mut kept, block, listed, table, cols, first, end)?;
+    push_both(
+        &mut out, &mut kept, block, listed, table, cols, found, first, end,
+    )?;
     Ok(out)
-}
-
-/// About how many of these entries are in listed rows, if no row has more of them than others.
-fn expected(height: u32, listed: usize, entries: usize) -> usize {
-    entries.saturating_mul(listed) / (height as usize).max(1)
 }
 
 /// Stores the listed rows of these columns in an empty block.
@@ -207,6 +191,7 @@ fn push_both<S: Semiring>(
     listed: &[u32],
     table: &RowTable,
     cols: &[u32],
+    found: &ColumnPlaces,
     first: usize,
     end: usize,
 ) -> Result<(), AllocError>
@@ -217,13 +202,11 @@ fn push_both<S: Semiring>(
     requires column_limit { length cols.now ≤ LIMIT }
     requires order { first ≤ end }
     requires within { end ≤ length cols.now }
+    requires places { length found.now.places.items ≡ end - first }
     ensures { OnOk result (out.new ≡ extracted_between S.arithmetic listed.now cols.now first end block.now) }
 {
-    let mut missing = 0usize;
     for n in first..end {
-        let place = place_near(block.column_numbers(), cols[n], missing);
-        missing = (cols[n] as usize).saturating_sub(place);
-        let (rows, values) = column_of(block, cols[n], place);
+        let (rows, values) = column_at(block, cols[n], found.places[n - first]);
         let count = keep_listed(kept, rows, values, listed, table)?;
         out.push_column(n as u32, &kept.rows[..count], &kept.values[..count])?;
     }
@@ -317,6 +300,8 @@ fn listed_rows<S: Semiring>(
     ensures { IfOk result (λ part. part ≡ rows_by S.arithmetic listed.now block.now) }
 {
     let mut out = Block::empty(alloc, shape_of(listed.len() as u32, block.shape().cols()));
+    let height = block.shape().rows() as usize;
+    out.reserve(expected(block.len(), listed.len(), height))?;
     let mut kept = KeptColumn::new(alloc);
     push_listed(&mut out, &mut kept, block, listed, table)?;
     Ok(out)
@@ -457,8 +442,8 @@ fn write_listed(
 
 /// The columns of a block with the given numbers, in that order. A number may appear more than once.
 ///
-/// Costs a copy of the entries of the result, and at most two binary searches for each number: none if as many smaller ones
-/// have no entries as for the number before it.
+/// Costs a copy of the entries of the result, a list of as many places as there are numbers, and at most one search for each: none
+/// if as many smaller ones have no entries as for the number before it.
 pub fn extract_columns<S: Semiring>(
     alloc: Global,
     block: &Block<S>,
@@ -485,8 +470,9 @@ fn columns_between<S: Semiring>(
 {
     let shape = shape_of(block.shape().rows(), columns.len() as u32);
     let mut out = Block::empty(alloc, shape);
-    out.reserve(entries_between(block, columns, first, end))?;
-    push_columns(&mut out, block, columns, first, end)?;
+    let found = places_of_columns(alloc, block, &columns[first..end])?;
+    out.reserve(found.entries)?;
+    push_columns(&mut out, block, columns, &found, first, end)?;
     Ok(out)
 }
 
@@ -495,6 +481,7 @@ fn push_columns<S: Semiring>(
     out: &mut Block<S>,
     block: &Block<S>,
     columns: &[u32],
+    found: &ColumnPlaces,
     first: usize,
     end: usize,
 ) -> Result<(), AllocError>
@@ -504,43 +491,12 @@ fn push_columns<S: Semiring>(
     requires empty { out.old ≡ empty_matrix (record { rows = block.now.shape.rows; cols = length columns.now }) }
     requires order { first ≤ end }
     requires within { end ≤ length columns.now }
+    requires places { length found.now.places.items ≡ end - first }
     ensures { OnOk result (out.new ≡ columns_between S.arithmetic columns.now first end block.now) }
 {
-    let mut missing = 0usize;
     for n in first..end {
-        let place = place_near(block.column_numbers(), columns[n], missing);
-        missing = (columns[n] as usize).saturating_sub(place);
-        let (rows, values) = column_of(block, columns[n], place);
+        let (rows, values) = column_at(block, columns[n], found.places[n - first]);
         out.push_column(n as u32, rows, values)?;
     }
     Ok(())
-}
-
-/// Where a column is among those that have entries, or where it would be. It isn't searched for if as many columns as before
-/// another one have no entries.
-#[inline(always)]
-fn place_near(columns: &[u32], column: u32, missing: usize) -> usize {
-    let place = (column as usize).saturating_sub(missing);
-    if place < columns.len() && columns[place] == column {
-        return place;
-    }
-    match columns.binary_search(&column) {
-        Ok(place) => place,
-        Err(place) => place,
-    }
-}
-
-/// The rows of a column and its values. If it isn't at this place among the columns that have entries, it is searched for.
-#[inline(always)]
-fn column_of<S: Semiring>(block: &Block<S>, column: u32, place: usize) -> (&[u32], &[u64])
-    ensures rows { result.0.now ≡ rows_of (in_column column block.now.entries) }
-    ensures values { result.1.now ≡ values_of (in_column column block.now.entries) }
-    ensures ascending { AllPairs (λ i j. i < j) result.0.now }
-    ensures are_values { All (IsValue S.arithmetic) result.1.now }
-{
-    let columns = block.column_numbers();
-    if place < columns.len() && columns[place] == column {
-        return block.nth_column(place);
-    }
-    block.column(column)
 }

@@ -3,7 +3,7 @@ ghost use Rattle.std.specs.Prelude.{◌≡◌, ◌≢◌, ℕ, ◌<◌, ◌≤�
 ghost use Rattle.cb_matrix.specs.Sparse.{IsMatrix};
 ghost use Rattle.cb_matrix.specs.Values.{empty_matrix};
 ghost use Rattle.cb_product.specs.SparseColumn.{IsSparseColumn};
-ghost use Rattle.cb_operations.specs.Selected.{kronecker, pair_shape};
+ghost use Rattle.cb_operations.specs.SelectionAnswers.{kronecker, pair_shape};
 ghost use Rattle.cb_selections.specs.KernelSteps.{IsPaired};
 
 use crate::shape_of;

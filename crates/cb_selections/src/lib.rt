@@ -1,5 +1,5 @@
 //! Selections of GraphBLAS from blocks: entries by their place, values replaced, the diagonal, a part assigned, the Kronecker
-//! product, powers and complemented masks. [`unary`] and [`binary`] make any [`Selection`](cb_operations::Selection). Beside them rows
+//! product, powers and complemented masks. [`selection_of_one`] and [`selection_of_two`] make any [`Selection`](cb_operations::Selection). Beside them rows
 //! and columns extracted by their numbers, a block updated under a mask, and products of transposes.
 //!
 //! Each walks the columns that have entries, in order, so its cost is proportional to the entries, whatever the
@@ -16,10 +16,11 @@ ghost use Rattle.cb_semirings.specs.Arithmetic.{IsValue};
 ghost use Rattle.cb_matrix.specs.Sparse.{IsMatrix};
 ghost use Rattle.cb_matrix.specs.Values.{empty_matrix};
 ghost use Rattle.cb_operations.specs.Functions.{operand_of};
-ghost use Rattle.cb_operations.specs.Selected.{selected, applied};
+ghost use Rattle.cb_operations.specs.SelectionAnswers.{selected, applied};
 ghost use Rattle.cb_selections.specs.KernelSteps.{is_one_range};
 
 mod assignments;
+mod column_places;
 mod diagonals;
 mod extracts;
 mod functions;
@@ -43,15 +44,18 @@ pub use diagonals::{diagonal, diagonal_matrix};
 pub use extracts::{extract, extract_between, extract_columns, extract_rows};
 pub use kronecker_products::kronecker;
 pub use powers::power;
-pub use selections::{binary, unary};
+pub use selections::{selection_of_one, selection_of_two};
 use std::alloc::{AllocError, Global};
 pub use turned_products::multiply_turned;
 pub use updates::{WriteBack, update};
 
+/// How many columns are judged before room is taken for the entries in a region.
+const JUDGED: usize = 64;
+
 /// The entries of a block that are in a region.
 ///
 /// Costs a binary search for each column that has entries, and a copy of the entries in the region; off a diagonal, a few
-/// instructions for each entry. Room is taken only as it is needed, since few entries may be in the region.
+/// instructions for each entry. Room is taken for as many as some columns lead to expect, since few entries may be in the region.
 pub fn select<S: Semiring>(
     alloc: Global,
     block: &Block<S>,
@@ -63,8 +67,34 @@ pub fn select<S: Semiring>(
         return replaced(alloc, block, &region, 0);
     }
     let mut kept = Block::empty(alloc, block.shape());
+    kept.reserve(expected_in(block, region))?;
     push_ranges(&mut kept, block, region)?;
     Ok(kept)
+}
+
+/// About how many entries of a block are in a region, or some more, judged by columns that are as far apart as one another.
+fn expected_in<S: Semiring>(block: &Block<S>, region: Region) -> usize
+    requires { is_one_range region ≡ true }
+{
+    let columns = block.column_numbers();
+    let mut entries = 0usize;
+    let mut inside = 0usize;
+    let mut n = 0usize;
+    while n < columns.len() {
+        let (rows, _values) = block.nth_column(n);
+        let (start, end) = range(region, columns[n], rows);
+        entries = entries.saturating_add(rows.len());
+        inside = inside.saturating_add(end - start);
+        n = n.saturating_add(columns.len() / JUDGED + 1);
+    }
+    expected(block.len(), inside, entries)
+}
+
+/// About how many of these entries are in a part, which has so many of a whole: its share, and an eighth more, so that a little more
+/// needs no other memory.
+pub(crate) fn expected(entries: usize, part: usize, whole: usize) -> usize {
+    let share = entries.saturating_mul(part) / whole.max(1);
+    share.saturating_add(share / 8).min(entries)
 }
 
 /// Stores the entries in a region in an empty block, where they follow one another in each column.

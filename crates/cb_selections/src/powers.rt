@@ -1,6 +1,6 @@
 //! Powers of a square block.
 ghost use Rattle.std.specs.Prelude.{◌≡◌, ◌≤◌, IfOk};
-ghost use Rattle.cb_operations.specs.Selected.{power};
+ghost use Rattle.cb_operations.specs.SelectionAnswers.{power};
 
 use cb_dcsc::Block;
 use cb_product::multiply;

@@ -16,7 +16,7 @@ use cb_semirings::Semiring;
 use std::alloc::{AllocError, Global};
 
 /// Makes a selection from one block, from which it can be made ([`Selection::suits`]).
-pub fn unary<S: Semiring>(
+pub fn selection_of_one<S: Semiring>(
     alloc: Global,
     selection: Selection,
     a: &Block<S>,
@@ -37,7 +37,7 @@ pub fn unary<S: Semiring>(
 }
 
 /// Makes a selection from two blocks, from which it can be made.
-pub fn binary<S: Semiring>(
+pub fn selection_of_two<S: Semiring>(
     alloc: Global,
     selection: Selection,
     a: &Block<S>,

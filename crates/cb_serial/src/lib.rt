@@ -68,7 +68,7 @@ pub fn unary<S: Semiring>(
 {
     match computation {
         Computation::Operation(operation) => operation_of_one(alloc, operation, a),
-        Computation::Selection(selection) => cb_selections::unary(alloc, selection, a),
+        Computation::Selection(selection) => cb_selections::selection_of_one(alloc, selection, a),
         Computation::MultiplyOutside => unreachable!(),
     }
 }
@@ -86,7 +86,9 @@ pub fn binary<S: Semiring>(
 {
     match computation {
         Computation::Operation(operation) => operation_of_two(alloc, operation, a, b),
-        Computation::Selection(selection) => cb_selections::binary(alloc, selection, a, b),
+        Computation::Selection(selection) => cb_selections::selection_of_two(
+            alloc, selection, a, b,
+        ),
         Computation::MultiplyOutside => unreachable!(),
     }
 }

@@ -4,13 +4,14 @@ ghost use Rattle.std.specs.Prelude.{◌≡◌, IfOk};
 use cb_dcsc::{Block, BlockFault};
 use cb_layout::PanelledMatrix;
 use cb_matrix::{Entry, LIMIT};
-use cb_operations::{Computation, ComputeFault};
+use cb_operations::{Computation, ComputeFault, Operation};
 use cb_panels::Panels;
 use cb_samples::{SampleFault, block, entry};
 use cb_semirings::PlusTimes;
 use cb_serial::compute;
 use cb_shares::computed_columns;
 use std::alloc::{AllocError, Global};
+use std::thread::Threads;
 
 pub(crate) type Matrix = Block<PlusTimes>;
 
@@ -96,12 +97,26 @@ pub(crate) fn are_halves(
 }
 
 /// A result that isn't refused.
-fn made(computed: Result<Matrix, ComputeFault>) -> Result<Matrix, SampleFault> {
+fn made<M: Drop>(computed: Result<M, ComputeFault>) -> Result<M, SampleFault> {
     match computed {
         Ok(made) => Ok(made),
         Err(ComputeFault::Memory) => Err(SampleFault::Block(BlockFault::Memory)),
         Err(ComputeFault::Refused(_refusal)) => Err(SampleFault::Shape),
     }
+}
+
+/// The product of two matrices, in at most so many panels, each made by a thread.
+pub(crate) fn product_in<R: Threads + Sync>(
+    rt: &R,
+    alloc: Global,
+    most: u32,
+    left: Matrix,
+    right: Matrix,
+) -> Result<PanelledMatrix<PlusTimes>, SampleFault> {
+    let product = Computation::Operation(Operation::Multiply);
+    let left = PanelledMatrix::from_block(alloc, left);
+    let right = PanelledMatrix::from_block(alloc, right);
+    made(cb_panels::compute(rt, alloc, panels(most), product, &[&left, &right]))
 }
 
 /// Whether two ranges of columns that meet at one, and the range of all, are what is computed of the same matrices as blocks.

@@ -1,12 +1,12 @@
 //! Products in panels, beside the product by one thread.
 ghost use Rattle.std.specs.Prelude.{◌≡◌, IfOk};
 
-use crate::operands::{are_same, is_right_or_refused, panels, scattered};
+use crate::operands::{are_same, is_right_or_refused, panels, product_in, scattered};
 use cb_dcsc::Block;
 use cb_layout::PanelledMatrix;
 use cb_matrix::{LIMIT, Test};
 use cb_operations::{Computation, ComputeFault, Diagonal, Function, Operation, Region, Selection};
-use cb_panels::{compute, multiply, multiply_panels};
+use cb_panels::compute;
 use cb_samples::{SampleFault, block};
 use cb_semirings::PlusTimes;
 use std::alloc::{AllocError, Global};
@@ -42,22 +42,7 @@ fn factors_of(
     Ok((left, right))
 }
 
-/// Whether the product in so many panels is the product by one thread.
-fn is_same<R: Threads + Sync>(
-    rt: &R,
-    alloc: Global,
-    most: u32,
-    left: &Block<PlusTimes>,
-    right: &Block<PlusTimes>,
-) -> Result<bool, AllocError>
-    requires { left.now.shape.cols ≡ right.now.shape.rows }
-{
-    let wanted = cb_product::multiply(alloc, left, right)?;
-    let found = multiply(rt, alloc, panels(most), left, right)?;
-    Ok(are_same(&found, &wanted))
-}
-
-/// Whether it is for factors of a seed.
+/// Whether the product of factors of a seed, in so many panels, is the product by one thread.
 fn is_product<R: Threads + Sync>(
     rt: &R,
     alloc: Global,
@@ -66,7 +51,9 @@ fn is_product<R: Threads + Sync>(
     seed: u32,
 ) -> Result<bool, SampleFault> {
     let (left, right) = factors_of(alloc, factors, seed)?;
-    Ok(is_same(rt, alloc, most, &left, &right)?)
+    let wanted = cb_product::multiply(alloc, &left, &right)?;
+    let found = product_in(rt, alloc, most, left, right)?;
+    Ok(are_same(&found.into_block()?, &wanted))
 }
 
 /// Whether it is for some seeds and in as many panels as are tried.
@@ -88,20 +75,6 @@ fn products_in_panels_are_the_same(rt: HostRuntime) {
     }
 }
 
-/// How many panels a product has, of at most this many.
-fn panel_count<R: Threads + Sync>(
-    rt: &R,
-    alloc: Global,
-    most: u32,
-    left: &Block<PlusTimes>,
-    right: &Block<PlusTimes>,
-) -> Result<usize, AllocError>
-    requires { left.now.shape.cols ≡ right.now.shape.rows }
-{
-    let made = multiply_panels(rt, alloc, panels(most), left, right)?;
-    Ok(made.panels().1.len() + 1)
-}
-
 /// Whether the product of some factors has this many panels, of at most so many.
 fn has_panels<R: Threads + Sync>(
     rt: &R,
@@ -111,7 +84,8 @@ fn has_panels<R: Threads + Sync>(
     wanted: usize,
 ) -> Result<bool, SampleFault> {
     let (left, right) = factors_of(alloc, factors, 7919)?;
-    Ok(panel_count(rt, alloc, most, &left, &right)? == wanted)
+    let made = product_in(rt, alloc, most, left, right)?;
+    Ok(made.panels().1.len() + 1 == wanted)
 }
 
 const MANY: Factors = ([60, 6, 40], [60, 6, 40], [1, 3]);
@@ -153,7 +127,7 @@ fn square<R: Threads + Sync>(
     seed: u32,
 ) -> Result<Panelled, SampleFault> {
     let (left, right) = factors_of(alloc, &SQUARE, seed)?;
-    Ok(multiply_panels(rt, alloc, panels(most), &left, &right)?)
+    product_in(rt, alloc, most, left, right)
 }
 
 /// What was computed, None where it was refused.

@@ -4,15 +4,14 @@
 ghost use Rattle.std.specs.Prelude.{◌<◌, ◌≤◌, length, All, IsTrue, option_copied};
 ghost use Rattle.cb_selections.specs.Extracted.{AreBelow, AreFew};
 
-use crate::operands::{Matrix, are_halves, is_computed, panels, random};
+use crate::operands::{Matrix, are_halves, is_computed, product_in, random};
 use cb_layout::PanelledMatrix;
 use cb_matrix::LIMIT;
 use cb_operations::{Computation, Selection};
-use cb_panels::multiply_panels;
 use cb_samples::SampleFault;
 use cb_selections::{WriteBack, extract, update};
 use cb_semirings::PlusTimes;
-use cb_shares::{ends_by_entries, extract_columns, total, update_columns};
+use cb_shares::{ends_by_entries, extracted_columns, total, update_columns};
 use std::alloc::{AllocError, Global};
 use std::thread::Threads;
 
@@ -22,7 +21,7 @@ type Panelled = PanelledMatrix<PlusTimes>;
 fn product<R: Threads + Sync>(rt: &R, alloc: Global, one_in: u32) -> Result<Panelled, SampleFault> {
     let left = random(alloc, 60, 6, one_in, 7919)?;
     let right = random(alloc, 6, 9, one_in, 104729)?;
-    Ok(multiply_panels(rt, alloc, panels(3), &left, &right)?)
+    product_in(rt, alloc, 3, left, right)
 }
 
 /// Whether an update under the matrix itself is.
@@ -84,8 +83,8 @@ fn is_extracted(
 {
     let whole = matrix.whole()?;
     let wanted = extract(alloc, whole.block(), rows, cols)?;
-    let front = extract_columns(alloc, matrix, rows, cols, 0, column)?;
-    let back = extract_columns(alloc, matrix, rows, cols, column, LIMIT)?;
+    let front = extracted_columns(alloc, matrix, rows, cols, 0, column)?;
+    let back = extracted_columns(alloc, matrix, rows, cols, column, LIMIT)?;
     are_halves(&wanted, &front, &back)
 }
 

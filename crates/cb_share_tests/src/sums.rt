@@ -5,11 +5,10 @@ ghost use Rattle.cb_operations.specs.OperationAnswers.{operand_count_of, Agree, 
 ghost use Rattle.cb_operations.specs.Operands.{lent_in};
 ghost use Rattle.cb_shares.specs.Sums.{IsSumOfColumns};
 
-use crate::operands::{Matrix, are_same, panels, random};
+use crate::operands::{Matrix, are_same, product_in, random};
 use cb_layout::PanelledMatrix;
 use cb_matrix::LIMIT;
 use cb_operations::Operation;
-use cb_panels::multiply_panels;
 use cb_product::multiply;
 use cb_reshape::row_sums;
 use cb_samples::SampleFault;
@@ -84,7 +83,7 @@ fn are_sums<R: Threads + Sync>(rt: &R, alloc: Global, column: u32) -> Result<boo
     let left = random(alloc, 60, 6, 2, 7919)?;
     let right = random(alloc, 6, 9, 2, 104729)?;
     let vector = random(alloc, 9, 1, 2, 31)?;
-    let matrix = multiply_panels(rt, alloc, panels(3), &left, &right)?;
+    let matrix = product_in(rt, alloc, 3, left, right)?;
     Ok(
         is_total(&matrix, column)
             && are_row_sums(alloc, &matrix, column)?

@@ -26,7 +26,7 @@ use Rattle.cb_operations.specs.declared.computations.Computation.TheVariants as 
 use Rattle.cb_operations.specs.Computations.{Suits, answer_of}
 use Rattle.cb_operations.specs.Functions.{TakesValues, function_value, operand_of}
 use Rattle.cb_operations.specs.Regions.{is_in}
-use Rattle.cb_operations.specs.Selected.{times_itself, pair_shape, excluded}
+use Rattle.cb_operations.specs.SelectionAnswers.{times_itself, pair_shape, excluded}
 use Rattle.cb_elementwise.specs.RuleLaws.{function_value-value}
 
 module _ (s : Arithmetic) (laws : IsSemiring s) where

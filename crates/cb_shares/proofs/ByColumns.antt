@@ -21,7 +21,7 @@ use Rattle.cb_operations.specs.declared.computations.Computation.TheVariants.{Op
 use Rattle.cb_operations.specs.Computations.{operand_count_of, Suits, answer_of}
 use Rattle.cb_operations.specs.OperationAnswers.{shapes_in}
 use Rattle.cb_matrix.specs.Passing.{passes}
-use Rattle.cb_operations.specs.Selected.{selected, applied, excluded}
+use Rattle.cb_operations.specs.SelectionAnswers.{selected, applied, excluded}
 use Rattle.cb_elementwise.specs.RuleLaws.{function_value-value}
 use Rattle.cb_product.specs.InColumns.{only_columns}
 use Rattle.cb_product.proofs.OnlyColumns.{only_value}

@@ -10,7 +10,7 @@ use Rattle.cb_matrix.specs.Operations.{has_entry, masked}
 use Rattle.cb_matrix.proofs.Made.{at-matrix_of, IsMatrix-matrix_of}
 use Rattle.cb_matrix.proofs.Equal.{matrix_is}
 use Rattle.cb_matrix.proofs.Totals.{value_at-value, total-same, total-zero}
-use Rattle.cb_operations.specs.Selected.{excluded}
+use Rattle.cb_operations.specs.SelectionAnswers.{excluded}
 use Rattle.cb_product.specs.InColumns.{is_among, only_columns}
 use Rattle.cb_product.proofs.ColumnsMade.{absent_value}
 use Rattle.cb_product.proofs.OnlyColumns.{not_among, only_in, only_matrix, only_value}

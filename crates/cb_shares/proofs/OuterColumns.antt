@@ -5,7 +5,7 @@ use Rattle.std.proofs.lemmas.Bool.{cases_lt}
 use Rattle.cb_semirings.specs.Arithmetic.{Arithmetic, IsSemiring}
 use Rattle.cb_matrix.specs.Sparse.{Sparse, IsMatrix, at}
 use Rattle.cb_matrix.proofs.Totals.{value_at-value}
-use Rattle.cb_operations.specs.Selected.{kronecker, pair_shape}
+use Rattle.cb_operations.specs.SelectionAnswers.{kronecker, pair_shape}
 use Rattle.cb_product.specs.InColumns.{only_columns}
 use Rattle.cb_product.proofs.OnlyColumns.{only_matrix, only_value}
 use Rattle.cb_shares.specs.Shares.{columns_from, panel}

@@ -7,13 +7,14 @@ use Rattle.std.proofs.lemmas.Bool.Decides.{nat_tests}
 use Rattle.cb_semirings.specs.Arithmetic.{Arithmetic, IsValue, IsSemiring}
 use Rattle.cb_matrix.specs.Sparse.{Sparse, Extent, IsMatrix, at}
 use Rattle.cb_matrix.specs.Operations.{cut, is_covered}
+use Rattle.cb_matrix.proofs.Made.{IsMatrix-matrix_of}
 use Rattle.cb_matrix.proofs.Totals.{value_at-value}
-use Rattle.cb_operations.specs.Selected.{assigned}
+use Rattle.cb_operations.specs.SelectionAnswers.{assigned}
 use Rattle.cb_product.specs.InColumns.{is_among, only_columns}
 use Rattle.cb_product.proofs.OnlyColumns.{only_value}
 use Rattle.cb_shares.specs.Shares.{columns_from, panel}
 use Rattle.cb_shares.proofs.ColumnValues.{only_none, only_inside, only_of}
-use Rattle.cb_shares.proofs.Ranges.{range_holds, range_has, same_answer}
+use Rattle.cb_shares.proofs.Ranges.{all_columns, range_holds, range_has, same_answer}
 
 -- a column behind the first one of a part is in a range just if it is in the range that is moved to the part
 moved_range : (left first end j : ℕ) → left ≤ j → is_among (columns_from (first - left) (end - left)) (j - left) ≡ is_among (columns_from first end) j
@@ -57,6 +58,12 @@ module _ (s : Arithmetic) (laws : IsSemiring s) (a : Sparse) (is_a : IsMatrix s 
       (λ (t : is_among cs (cols.0 + j) ≡ true). absurd (true≢false (sym (taken_range cols.0 wide first end j t) ∙ u)))
       (λ (f : is_among cs (cols.0 + j) ≡ false). only_none s cs a (rows.0 + i) (cols.0 + j) f)
       (cases_Bool (is_among cs (cols.0 + j))))
+
+  -- all columns of a part are the part
+  pub whole_part : (rows cols : ℕ × ℕ) (end : ℕ) → cols.1 - cols.0 ≤ end → cut s rows cols a ≡ panel (cut s rows cols a) 0 end
+  whole_part rows cols end l =
+      let f : ℕ → ℕ → ℕ = λ i j. at s a (rows.0 + i) (cols.0 + j) in
+      sym (all_columns s (cut s rows cols a) end (IsMatrix-matrix_of s (record { rows = rows.1 - rows.0; cols = cols.1 - cols.0 }) f (λ i j _ _. value_at-value s laws a.entries (rows.0 + i) (cols.0 + j) is_a.values)) l)
 
   module _ (b : Sparse) (is_b : IsMatrix s b) where
     -- some columns of a matrix with a part in it have these columns of both

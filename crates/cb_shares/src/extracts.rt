@@ -15,7 +15,7 @@ use std::alloc::{AllocError, Global};
 /// given numbers, in that order, or of all of them, in a block of the whole shape. A number may appear more than once.
 ///
 /// Costs what these columns cost (`cb_selections::extract`). A matrix in several panels is copied if columns are listed.
-pub fn extract_columns<S: Semiring>(
+pub fn extracted_columns<S: Semiring>(
     alloc: Global,
     matrix: &PanelledMatrix<S>,
     rows: Option<&[u32]>,

@@ -32,7 +32,7 @@ use cb_product::{ColumnIndex, products_of_columns, total_products};
 use cb_semirings::Semiring;
 pub use columns::columns_between;
 pub use entry_ends::{ends_by_entries, even_ends};
-pub use extracts::extract_columns;
+pub use extracts::extracted_columns;
 pub use joins::{are_before, join, total};
 use std::alloc::{AllocError, Global};
 pub use sums::{add_share, column_of_sums, share_of_sum, total_of_columns};

@@ -2,7 +2,7 @@
 ghost use Rattle.std.specs.Prelude.{◌≡◌, ℕ, ◌<◌, ◌≤◌, ◌*◌, ◌/◌, [], ◌∷◌, IfOk};
 ghost use Rattle.cb_operations.specs.Computations.{operand_count_of, Suits, answer_of};
 ghost use Rattle.cb_operations.specs.OperationAnswers.{shapes_in};
-ghost use Rattle.cb_operations.specs.Selected.{excluded, kronecker};
+ghost use Rattle.cb_operations.specs.SelectionAnswers.{excluded, kronecker};
 ghost use Rattle.cb_matrix.specs.Operations.{masked};
 ghost use Rattle.cb_matrix.specs.Values.{product, product_shape};
 ghost use Rattle.cb_shares.specs.Shares.{panel};

@@ -2,8 +2,8 @@
 //! run. `cb_jobs` does the rest.
 #![tactic(auto)]
 
+use cb_job_files::system_files::SystemFiles;
 use cb_job_runs::endings::Status;
-use cb_job_runs::system_files::SystemFiles;
 use cb_job_runs::system_runs::run_on_system;
 use cb_jobs::program::Cbgrid;
 

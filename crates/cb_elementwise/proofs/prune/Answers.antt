@@ -3,7 +3,7 @@ use Rattle.std.proofs.lemmas.Result.{IfOk-weaker}
 use Rattle.cb_matrix.specs.Passing.{passes}
 use Rattle.cb_matrix.specs.Operations.{pruned}
 use Rattle.cb_elementwise.specs.RuleLaws.{unless_passes}
-use Rattle.cb_operations.specs.Selected.{replaced}
+use Rattle.cb_operations.specs.SelectionAnswers.{replaced}
 use Rattle.cb_elementwise.proofs.PrunedValues.{pruned_is}
 use Rattle.cb_elementwise.proofs.prune.Goals as goal
 

@@ -6,7 +6,7 @@ use Rattle.cb_matrix.specs.Sparse.{Sparse}
 use Rattle.cb_dcsc.specs.Columns.{revalued}
 use Rattle.cb_dcsc.proofs.Lookup.{all_values}
 use Rattle.cb_operations.specs.Functions.{operand_of}
-use Rattle.cb_operations.specs.Selected.{applied}
+use Rattle.cb_operations.specs.SelectionAnswers.{applied}
 use Rattle.cb_selections.specs.KernelSteps.{results_of}
 use Rattle.cb_selections.proofs.FunctionResults.{are_operands, are_results, applied_is, made_are}
 use Rattle.cb_selections.proofs.apply.Goals as goal

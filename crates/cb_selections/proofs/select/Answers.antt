@@ -1,8 +1,8 @@
 use Rattle.std.proofs.Common.{◌≡◌, ◌∙◌}
 use Rattle.std.proofs.lemmas.Result.{IfOk-weaker}
 use Rattle.cb_operations.specs.Regions.{is_in, where_true}
-use Rattle.cb_operations.specs.Selected.{replaced}
-use Rattle.cb_operations.specs.Selected.{selected}
+use Rattle.cb_operations.specs.SelectionAnswers.{replaced}
+use Rattle.cb_operations.specs.SelectionAnswers.{selected}
 use Rattle.cb_selections.proofs.RegionValues.{selected_is}
 use Rattle.cb_selections.proofs.select.Goals as goal
 

@@ -7,7 +7,8 @@ use cb_job_output::rounds::Form;
 use cb_layout::{Grid, PanelledMatrix};
 use cb_market::{Kind, read_distributed};
 use cb_market_pages::TextPages;
-use cb_panels::{Panels, multiply_panels};
+use cb_operations::{Computation, ComputeFault, Operation};
+use cb_panels::{Panels, compute};
 use cb_semirings::PlusTimes;
 use std::alloc::{AllocError, Global};
 use std::thread::Threads;
@@ -80,16 +81,16 @@ fn product_with_one<R: Threads + Sync>(
     rt: &R,
     alloc: Global,
     most: u32,
-    right: &Block<PlusTimes>,
+    right: Block<PlusTimes>,
 ) -> Result<PanelledMatrix<PlusTimes>, Kind> {
-    let left = block_of(alloc, ONE)?;
-    if left.shape().cols() != right.shape().rows() {
-        return Err(Kind::TooLarge);
-    }
+    let left = PanelledMatrix::from_block(alloc, block_of(alloc, ONE)?);
+    let right = PanelledMatrix::from_block(alloc, right);
     let panels = Panels { most, least: 1 };
-    match multiply_panels(rt, alloc, panels, &left, right) {
+    let product = Computation::Operation(Operation::Multiply);
+    match compute(rt, alloc, panels, product, &[&left, &right]) {
         Ok(product) => Ok(product),
-        Err(AllocError) => Err(Kind::Memory),
+        Err(ComputeFault::Memory) => Err(Kind::Memory),
+        Err(ComputeFault::Refused(_refusal)) => Err(Kind::TooLarge),
     }
 }
 
@@ -101,7 +102,7 @@ fn is_own_text<R: Threads + Sync>(
     given: &[u8],
 ) -> Result<bool, Kind> {
     let right = block_of(alloc, given)?;
-    let product = product_with_one(rt, alloc, most, &right)?;
+    let product = product_with_one(rt, alloc, most, right)?;
     is_text(rt, alloc, &product, given).map_err(|_| Kind::Memory)
 }
 

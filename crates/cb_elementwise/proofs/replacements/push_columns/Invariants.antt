@@ -1,6 +1,6 @@
 use Rattle.std.proofs.Common.{get_or}
 use Rattle.cb_matrix.specs.Sparse.{at}
-use Rattle.cb_operations.specs.Selected.{of_stored}
+use Rattle.cb_operations.specs.SelectionAnswers.{of_stored}
 use Rattle.cb_product.proofs.ColumnsMade.{IsMadeTo}
 use Rattle.cb_elementwise.proofs.replacements.push_columns.Given as goal
 

@@ -2,8 +2,8 @@ use Rattle.cb_ffi.proofs.Steps.{List, [], ◌∷◌, refl, ap, proved, ftrue, Va
 use Rattle.cb_ffi.specs.contracts.handles.borrowed_with_transpose as f
 use Rattle.cb_ffi.proofs.handles.borrowed_with_transpose.Statement.{statement}
 use Rattle.cb_ffi.proofs.handles.borrowed_with_transpose.Code as code
-use Rattle.cb_ffi.specs.contracts.handles.Lent.{the_row as R}
-use Rattle.cb_ffi.proofs.handles.Lent.TheLaws.{lowered, lowers}
+use Rattle.cb_ffi.specs.contracts.handles.LentMatrix.{the_row as R}
+use Rattle.cb_ffi.proofs.handles.LentMatrix.TheLaws.{lowered, lowers}
 
 abbrev stayed : Stays f.ended.signature.params f.ended.kept
 stayed = (stay_dropped _ yes, tt)

@@ -8,7 +8,7 @@ use denote.RattleType.{Valss}
 use denote.Builtin.{RawPtr}
 use denote.Struct.Struct.{within}
 use denote.Struct.Owning.{shape}
-use Rattle.cb_ffi.specs.contracts.handles.Owned.{the_type as T}
+use Rattle.cb_ffi.specs.contracts.handles.OwnedMatrix.{the_type as T}
 use denote.RawPtr.{block_ptr}
 use denote.Triple.Walked.{Goes-spent_ref}
 use Rattle.cb_ffi.specs.contracts.handles.hand_out as f

@@ -8,8 +8,8 @@ use Rattle.cb_ffi.specs.Handles.{owned_at}
 use Rattle.cb_ffi.specs.contracts.handles.take_back as f
 use Rattle.cb_ffi.proofs.handles.take_back.Statement.{statement}
 use Rattle.cb_ffi.proofs.handles.take_back.Code as code
-use Rattle.cb_ffi.specs.contracts.handles.Owned.{the_row as R}
-use Rattle.cb_ffi.proofs.handles.Owned.TheLaws.{lowered, lowers}
+use Rattle.cb_ffi.specs.contracts.handles.OwnedMatrix.{the_row as R}
+use Rattle.cb_ffi.proofs.handles.OwnedMatrix.TheLaws.{lowered, lowers}
 
 abbrev stayed : Stays f.ended.signature.params f.ended.kept
 stayed = (stay_dropped _ yes, tt)

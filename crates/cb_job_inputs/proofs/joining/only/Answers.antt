@@ -7,4 +7,4 @@ returns g c =
     let o = c.take.result in
     let some : 0 < length c.args.places.now = search rules in
     let same : o ≡ get_or c.args.places.now 0 o = search rules in
-    only_read g.S.Semiring.arithmetic c.args.plan.now c.args.pieces.now c.args.places.now c.requires.order o c.requires.few some same
+    only_read g.S.Semiring.arithmetic c.args.reading.now c.args.pieces.now c.args.places.now c.requires.order o c.requires.few some same

@@ -4,5 +4,5 @@ use Rattle.cb_job_inputs.proofs.places.fill.Given as goal
 -- the places are in order, and the others too
 abbrev pub invariant-loop-number : goal.invariant-loop-number
 invariant-loop-number g l =
-    AreInOrder g.S.Semiring.arithmetic l.cut.plan l.cut.pieces.items l.places.items
-    × AreInOrder g.S.Semiring.arithmetic l.cut.plan l.cut.pieces.items l.others.items
+    AreInOrder g.S.Semiring.arithmetic l.cut.reading l.cut.pieces.items l.places.items
+    × AreInOrder g.S.Semiring.arithmetic l.cut.reading l.cut.pieces.items l.others.items

@@ -1,5 +1,5 @@
 use Rattle.std.proofs.Common.{sym, subst, ap, Err}
-use Rattle.cb_job_runs.specs.Files.{AreTexts, IsUnloaded}
+use Rattle.cb_job_files.specs.Files.{AreTexts, IsUnloaded}
 use Rattle.cb_job_runs.specs.Endings.{IsJobEnding}
 use Rattle.cb_job_runs.proofs.EndingLemmas.{job_unloaded}
 use Rattle.cb_job_runs.proofs.runs.job_ending.Goals as goal

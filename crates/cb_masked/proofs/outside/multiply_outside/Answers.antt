@@ -2,7 +2,7 @@ use Rattle.std.proofs.Common.{◌≡◌, refl, subst}
 use Rattle.std.specs.Prelude.{IfOk}
 use Rattle.cb_matrix.specs.Sparse.{Sparse}
 use Rattle.cb_matrix.specs.Values.{product}
-use Rattle.cb_operations.specs.Selected.{excluded}
+use Rattle.cb_operations.specs.SelectionAnswers.{excluded}
 use Rattle.cb_masked.proofs.SomeColumns.{all_places}
 use Rattle.cb_masked.proofs.outside.multiply_outside.Goals as goal
 

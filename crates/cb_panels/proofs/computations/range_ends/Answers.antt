@@ -24,6 +24,6 @@ returns-in-len3 g c =
     let s = g.S.Semiring.arithmetic in
     let o = c.args.computation in
     let xs = c.args.operands.now in
-    let b = c.b-item.result in
-    let same = cols_of_three s o xs b c.in-len3.len_at_least c.requires.count c.b-item.is in
+    let b = c.b-item-then-operands-lt4.result in
+    let same = cols_of_three s o xs b c.in-len3.len_at_least c.requires.count c.b-item-then-operands-lt4.is in
     IfOk-weaker c.ends_of_product.result _ _ (λ ends are _. all_ends (length ends.items) b.now.shape.cols (answer_of o s (lent_in xs)).shape.cols ends.items are same) c.ends_of_product.ensures

@@ -18,8 +18,8 @@ loop-n-init g c =
 
 pub keep_listed-requires-clause-inside : goal.keep_listed-requires-clause-inside
 keep_listed-requires-clause-inside g c =
-    subst (λ m. All (λ i. i < m) c.column_of.result.0.now) (sym c.requires.table.places.count)
-    (rows_inside g.S.Semiring.arithmetic c.args.block.now (get_or c.args.cols.now c.loop-n.n 0) c.column_of.result.0.now c.requires.matrix c.column_of.ensures.rows)
+    subst (λ m. All (λ i. i < m) c.column_at.result.0.now) (sym c.requires.table.places.count)
+    (rows_inside g.S.Semiring.arithmetic c.args.block.now (get_or c.args.cols.now c.loop-n.n 0) c.column_at.result.0.now c.requires.matrix c.column_at.ensures.rows)
 
 pub keep_listed-requires-clause-table : goal.keep_listed-requires-clause-table
 keep_listed-requires-clause-table g c =
@@ -33,16 +33,16 @@ push_column-requires-clause-rows g c =
 pub push_column-requires-clause-values : goal.push_column-requires-clause-values
 push_column-requires-clause-values g c =
     let a = c.args.block.now in
-    let e = c.column_of.ensures in
+    let e = c.column_at.ensures in
     let n = c.in_ok-count.count in
-    rw c.deref-in-loop-n.ensures.value (listed_column g.S.Semiring.arithmetic a c.requires.matrix c.args.listed.now (get_or c.args.cols.now c.loop-n.n 0) c.column_of.result.0.now c.column_of.result.1.now (take n c.keep_listed.new.kept.rows.items) (take n c.keep_listed.new.kept.values.items) e.rows e.values c.in_ok-count.ensures.listed).are_values
+    rw c.deref-in-loop-n.ensures.value (listed_column g.S.Semiring.arithmetic a c.requires.matrix c.args.listed.now (get_or c.args.cols.now c.loop-n.n 0) c.column_at.result.0.now c.column_at.result.1.now (take n c.keep_listed.new.kept.rows.items) (take n c.keep_listed.new.kept.values.items) e.rows e.values c.in_ok-count.ensures.listed).are_values
 
 pub push_column-requires-clause-not_zero : goal.push_column-requires-clause-not_zero
 push_column-requires-clause-not_zero g c =
     let a = c.args.block.now in
-    let e = c.column_of.ensures in
+    let e = c.column_at.ensures in
     let n = c.in_ok-count.count in
-    rw c.deref-in-loop-n.ensures.value (listed_column g.S.Semiring.arithmetic a c.requires.matrix c.args.listed.now (get_or c.args.cols.now c.loop-n.n 0) c.column_of.result.0.now c.column_of.result.1.now (take n c.keep_listed.new.kept.rows.items) (take n c.keep_listed.new.kept.values.items) e.rows e.values c.in_ok-count.ensures.listed).not_zero
+    rw c.deref-in-loop-n.ensures.value (listed_column g.S.Semiring.arithmetic a c.requires.matrix c.args.listed.now (get_or c.args.cols.now c.loop-n.n 0) c.column_at.result.0.now c.column_at.result.1.now (take n c.keep_listed.new.kept.rows.items) (take n c.keep_listed.new.kept.values.items) e.rows e.values c.in_ok-count.ensures.listed).not_zero
 
 pub loop-n-preserved : goal.loop-n-preserved
 loop-n-preserved g c =
@@ -53,11 +53,11 @@ loop-n-preserved g c =
     let cols = c.args.cols.now in
     let n = c.loop-n.n in
     let j = get_or cols n 0 in
-    let rows = c.column_of.result.0.now in
-    let values = c.column_of.result.1.now in
+    let rows = c.column_at.result.0.now in
+    let values = c.column_at.result.1.now in
     let ks = take c.in_ok-count.count c.keep_listed.new.kept.rows.items in
     let ws = take c.in_ok-count.count c.keep_listed.new.kept.values.items in
-    let e = c.column_of.ensures in
+    let e = c.column_at.ensures in
     let kept = c.in_ok-count.ensures.listed in
     let has = listed_has s a is listed j rows values ks ws e.rows e.values kept in
     let stored = rw (c.deref.ensures.value, c.deref-in-loop-n.ensures.value) at c.in_ok-push_column.ensures.ok in

@@ -1,6 +1,6 @@
 use Rattle.std.proofs.Common.{◌*◌, ◌+◌, ◌^◌, get_or}
 use Rattle.cb_dcsc.specs.Columns.{row_value}
-use Rattle.cb_operations.specs.Selected.{pair_value}
+use Rattle.cb_operations.specs.SelectionAnswers.{pair_value}
 use Rattle.cb_selections.proofs.ListMade.{IsListTo}
 use Rattle.cb_selections.proofs.kronecker_products.pair_column.Given as goal
 

@@ -8,7 +8,7 @@ use Rattle.cb_dcsc.specs.Columns.{rows_of, values_of}
 use Rattle.cb_dcsc.proofs.Lookup.{rows_inside}
 use Rattle.cb_product.proofs.OwnColumn.{own_sparse}
 use Rattle.cb_product.proofs.StoredColumn.{column_adds, column_inside}
-use Rattle.cb_operations.specs.Selected.{pair_value}
+use Rattle.cb_operations.specs.SelectionAnswers.{pair_value}
 use Rattle.cb_elementwise.proofs.ReplacedColumns.{nth_are}
 use Rattle.cb_selections.proofs.PairedColumns.{columns_none, columns_all, column_none, column_all, column_more, column_before, column_low, pair_past, paired_has}
 use Rattle.cb_selections.proofs.kronecker_products.push_products.Goals as goal

@@ -1,6 +1,6 @@
 use Rattle.std.proofs.Common.{◌*◌, ◌+◌, ◌/◌, ◌%◌, get_or}
 use Rattle.cb_matrix.specs.Sparse.{at}
-use Rattle.cb_operations.specs.Selected.{pair_shape, pair_value}
+use Rattle.cb_operations.specs.SelectionAnswers.{pair_shape, pair_value}
 use Rattle.cb_product.proofs.ColumnsMade.{IsMadeTo}
 use Rattle.cb_selections.proofs.kronecker_products.push_products.Given as goal
 

@@ -2,7 +2,7 @@ use Rattle.std.proofs.Common.{◌≡◌, ◌≤◌, sym, ap, ◌∙◌, arith}
 use Rattle.std.proofs.lemmas.Result.{IfOk-weaker}
 use Rattle.cb_matrix.specs.Sparse.{Sparse}
 use Rattle.cb_matrix.specs.Values.{product}
-use Rattle.cb_operations.specs.Selected.{power}
+use Rattle.cb_operations.specs.SelectionAnswers.{power}
 use Rattle.cb_selections.proofs.PowerSteps.{power_columns, one_factor, two_factors, next_factor}
 use Rattle.cb_selections.proofs.powers.power.Goals as goal
 

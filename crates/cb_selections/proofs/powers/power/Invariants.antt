@@ -1,5 +1,5 @@
 use Rattle.std.proofs.Common.{◌≡◌, ◌≤◌}
-use Rattle.cb_operations.specs.Selected.{power}
+use Rattle.cb_operations.specs.SelectionAnswers.{power}
 use Rattle.cb_selections.proofs.powers.power.Given as goal
 
 abbrev pub invariant-loop : goal.invariant-loop

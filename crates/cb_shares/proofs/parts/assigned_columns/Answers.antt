@@ -1,7 +1,7 @@
 use Rattle.std.proofs.Common.{◌-◌, ap, subst, ◌∙◌}
 use Rattle.std.specs.Prelude.{◌≡◌, IfOk}
 use Rattle.cb_matrix.specs.Sparse.{Sparse}
-use Rattle.cb_operations.specs.Selected.{assigned}
+use Rattle.cb_operations.specs.SelectionAnswers.{assigned}
 use Rattle.cb_shares.specs.Shares.{panel}
 use Rattle.cb_shares.proofs.ShiftedColumns.{assigned_panel}
 use Rattle.cb_shares.proofs.parts.assigned_columns.Goals as goal

@@ -1,7 +1,7 @@
 use Rattle.std.proofs.Common.{◌≡◌, ap, subst, ◌∙◌}
 use Rattle.std.specs.Prelude.{IfOk, max}
 use Rattle.cb_matrix.specs.Sparse.{Extent, Sparse}
-use Rattle.cb_operations.specs.Selected.{kronecker}
+use Rattle.cb_operations.specs.SelectionAnswers.{kronecker}
 use Rattle.cb_shares.specs.Shares.{panel}
 use Rattle.cb_shares.proofs.OuterColumns.{kronecker_panel}
 use Rattle.cb_shares.proofs.products.kronecker_columns.Goals as goal

@@ -2,7 +2,7 @@ use Rattle.std.proofs.Common.{◌∙◌, ap, subst}
 use Rattle.std.specs.Prelude.{◌≡◌, IfOk}
 use Rattle.cb_matrix.specs.Sparse.{Sparse}
 use Rattle.cb_matrix.specs.Values.{product}
-use Rattle.cb_operations.specs.Selected.{excluded}
+use Rattle.cb_operations.specs.SelectionAnswers.{excluded}
 use Rattle.cb_shares.specs.Shares.{columns_from}
 use Rattle.cb_shares.proofs.ColumnValues.{only_excluded}
 use Rattle.cb_shares.proofs.products.outside_columns.Goals as goal

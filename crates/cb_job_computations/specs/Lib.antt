@@ -1,0 +1,2 @@
+pub mod ComputedTexts
+pub mod Extracts

@@ -1,2 +1,0 @@
-pub mod Extracts
-pub mod SelectionTexts

@@ -1,5 +1,0 @@
-use Rattle.cb_job_output.proofs.WrittenAnswers.{written}
-use Rattle.cb_jobs.proofs.job_operations.put_operation.Goals as goal
-
-pub returns : goal.returns
-returns g c = written _ _ _ _ _ _ _ _ c.in_ok-answer.ensures c.put_answer.ensures

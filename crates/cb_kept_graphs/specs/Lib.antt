@@ -1,0 +1,2 @@
+-- KeptGraphs: tasks on kept graphs.
+pub mod KeptGraphs
