@@ -1,2 +1,2 @@
--- Shared: what threads share.
+-- Shared: what threads share, and where the ranges of each end.
 pub mod Shared

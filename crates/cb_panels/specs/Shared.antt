@@ -7,6 +7,7 @@ use Rattle.cb_operations.specs.declared.computations.Computation.{Computation}
 use Rattle.cb_operations.specs.Computations.{operand_count_of, Suits, answer_of}
 use Rattle.cb_operations.specs.OperationAnswers.{shapes_in}
 use Rattle.cb_operations.specs.Operands.{lent_in}
+use Rattle.cb_shares.specs.Shares.{AreEnds}
 
 -- There are as many operands as the computation takes, they suit it, and its answer is a matrix.
 pub record AreShared (s : Arithmetic) (computation : Computation) (operands : List (Bor Sparse)) : Type 0 where
@@ -19,3 +20,7 @@ pub record HasRanges (ends : List ℕ) (count : ℕ) : Type 0 where
   pub ascending : AllPairs (λ c d. c ≤ d) ends
   pub some : 0 < count
   pub within : count ≤ length ends
+
+-- Where ranges that make up all columns of a matrix end; or there are none.
+abbrev pub MayEnd : Sparse → List ℕ → Type 0
+MayEnd m ends = 0 < length ends → AreEnds (length ends) m.shape.cols ends

@@ -3,7 +3,7 @@ ghost use Rattle.std.specs.Prelude.{◌≡◌, ◌<◌, [], ◌∷◌, length, I
 ghost use Rattle.cb_operations.specs.Computations.{operand_count_of, Suits, answer_of, IsFaultOf};
 ghost use Rattle.cb_operations.specs.OperationAnswers.{shapes_in};
 ghost use Rattle.cb_operations.specs.Operands.{lent_in};
-ghost use Rattle.cb_panels.specs.Shared.{AreShared};
+ghost use Rattle.cb_panels.specs.Shared.{AreShared, MayEnd};
 ghost use Rattle.cb_shares.specs.Shares.{AreEnds};
 
 use crate::Panels;
@@ -23,7 +23,7 @@ fn ends_of_one<S: Semiring>(
     computation: Computation,
     a: &PanelledMatrix<S>,
 ) -> Result<Vec<u32>, AllocError>
-    ensures { IfOk result (λ ends. 0 < length ends.items → AreEnds (length ends.items) (answer_of computation S.arithmetic (a.now ∷ [])).shape.cols ends.items) }
+    ensures { IfOk result (λ ends. MayEnd (answer_of computation S.arithmetic (a.now ∷ [])) ends.items) }
 {
     let (front, others) = a.panels();
     if let Computation::Operation(Operation::Transpose) = computation {
@@ -62,7 +62,7 @@ fn ends_of_two<S: Semiring>(
     b: &PanelledMatrix<S>,
 ) -> Result<Vec<u32>, AllocError>
     requires { Suits computation S.arithmetic (shapes_in (a.now ∷ b.now ∷ [])) }
-    ensures { IfOk result (λ ends. 0 < length ends.items → AreEnds (length ends.items) (answer_of computation S.arithmetic (a.now ∷ b.now ∷ [])).shape.cols ends.items) }
+    ensures { IfOk result (λ ends. MayEnd (answer_of computation S.arithmetic (a.now ∷ b.now ∷ [])) ends.items) }
 {
     if let Computation::Operation(Operation::Multiply) = computation {
         return ends_of_product(alloc, panels, a, b);
@@ -78,7 +78,7 @@ fn range_ends<S: Semiring>(
     operands: &[&PanelledMatrix<S>],
 ) -> Result<Vec<u32>, AllocError>
     requires { AreShared S.arithmetic computation operands.now }
-    ensures { IfOk result (λ ends. 0 < length ends.items → AreEnds (length ends.items) (answer_of computation S.arithmetic (lent_in operands.now)).shape.cols ends.items) }
+    ensures { IfOk result (λ ends. MayEnd (answer_of computation S.arithmetic (lent_in operands.now)) ends.items) }
 {
     if panels.most < 2 {
         return Ok(Vec::new(alloc));

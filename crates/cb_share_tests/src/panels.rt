@@ -7,6 +7,7 @@ use cb_layout::PanelledMatrix;
 use cb_matrix::{LIMIT, Test};
 use cb_operations::{Computation, ComputeFault, Diagonal, Function, Operation, Region, Selection};
 use cb_panels::compute;
+use cb_product::{ColumnIndex, multiply_columns};
 use cb_samples::{SampleFault, block};
 use cb_semirings::PlusTimes;
 use std::alloc::{AllocError, Global};
@@ -66,6 +67,23 @@ fn are_products<R: Threads + Sync>(rt: &R, alloc: Global, factors: &Factors) -> 
         }
     }
     true
+}
+
+/// Whether the product, made of all columns that have entries by an index of the left factor, is the product.
+fn are_columns(alloc: Global, factors: &Factors, seed: u32) -> Result<bool, SampleFault> {
+    let (left, right) = factors_of(alloc, factors, seed)?;
+    prove_eq!(left.shape().cols(), right.shape().rows());
+    let index = ColumnIndex::new(alloc, &left, right.len())?;
+    let columns = right.column_numbers();
+    let made = multiply_columns(alloc, &left, &index, &right, columns, right.len())?;
+    Ok(are_same(&made, &cb_product::multiply(alloc, &left, &right)?))
+}
+
+#[test]
+fn products_of_columns_are_the_same(rt: HostRuntime) {
+    for factors in FACTORS {
+        assert!(&rt; are_columns(rt.alloc(), factors, 7919) == Ok(true));
+    }
 }
 
 #[test]
